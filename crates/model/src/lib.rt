@@ -1,0 +1,75 @@
+// The types of the interface. What they mean is defined in specs/, one file for each section of document 01.
+
+pub struct Vector3 {
+    pub x: f32,
+    pub y: f32,
+    pub z: f32,
+}
+
+pub struct Quaternion {
+    pub w: f32,
+    pub x: f32,
+    pub y: f32,
+    pub z: f32,
+}
+
+// The Rust's QVTransform: eight floats in three parts.
+pub struct Pose {
+    pub translation: Vector3,
+    pub scale: f32,
+    pub rotation: Quaternion,
+}
+
+// A row of a matrix: `m.r1.c2` is the Rust's `m[1][2]`.
+pub struct Row {
+    pub c0: f32,
+    pub c1: f32,
+    pub c2: f32,
+    pub c3: f32,
+}
+
+pub struct Matrix4 {
+    pub r0: Row,
+    pub r1: Row,
+    pub r2: Row,
+    pub r3: Row,
+}
+
+// What the Rust's ClipInstance holds beside its clip: start time, playback rate and time offset.
+pub struct ClipInstance {
+    pub start: f32,
+    pub rate: f32,
+    pub offset: f32,
+}
+
+// Idle, or in a transition with its start, target and duration.
+pub enum Transition {
+    Idle,
+    Running {
+        start: f64,
+        target: usize,
+        duration: f32,
+    },
+}
+
+// The instances are 64 times start, rate and offset in one array, so that they can be lent without a copy.
+pub struct Player {
+    pub clock: f64,
+    pub speed: f64,
+    pub state: usize,
+    pub transition: Transition,
+    pub parameters: [f32; 32],
+    pub instances: [f32; 192],
+}
+
+// The acceptance, or a refusal with its number and place.
+pub enum Answer {
+    Accepted,
+    Refused { number: usize, place: usize },
+}
+
+// What a call that may be refused gives back.
+pub struct Outcome {
+    pub answer: Answer,
+    pub player: Player,
+}
