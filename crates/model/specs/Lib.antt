@@ -1,3 +1,15 @@
+-- Document 01's definitions, one file a section, in its order
 pub mod Numbers
 pub mod Rotations
 pub mod Pose
+pub mod Answers
+pub mod Plan
+pub mod Check
+pub mod Clips
+pub mod Table
+pub mod Tree
+pub mod Controller
+pub mod Skeleton
+pub mod Run
+pub mod Unseen
+pub mod Promises

@@ -1,0 +1,63 @@
+-- Document 01, "Clips (animation.rs)". Definitions only.
+use Prim.Native.Nat.{ℕ, zero, suc, _+_, _*_, _%_}
+use mathlib.Core.Bool.{cond}
+use mathlib.Core.List.{List, [], _∷_}
+use lib.ListN.{getD, set}
+use lib.Ieee.{Float, nan, ne}
+use Rattle.model.specs.declared.Pose.{Pose}
+use Rattle.model.specs.declared.ClipInstance.{ClipInstance}
+use Rattle.model.specs.Numbers.{_+₃₂_, _-₃₂_, _*₃₂_, _/₃₂_, 0f, 1f, floorIndex, ceilingIndex, indexFloat}
+use Rattle.model.specs.Pose.{lerp}
+use Rattle.model.specs.Plan.{sampleCount, number, Rate, samplePose}
+
+-- ---- a position
+
+-- its floor and its ceiling as indices, each modulo N
+unfoldable pub firstIndex : ℕ → Float → ℕ
+firstIndex n position = floorIndex position % n
+
+unfoldable pub secondIndex : ℕ → Float → ℕ
+secondIndex n position = ceilingIndex position % n
+
+-- position minus the floor's index, taken before the modulo, as a float
+unfoldable pub factor : Float → Float
+factor position = position -₃₂ indexFloat (floorIndex position)
+
+-- ---- a clip instance
+
+abbrev pub localTime : ClipInstance → Float → Float
+localTime i time = (time -₃₂ i .start) *₃₂ i .rate +₃₂ i .offset
+
+-- a rate unequal to the old one moves the offset; an equal one changes nothing
+abbrev pub setPlaybackRate : ClipInstance → Float → Float → ClipInstance
+setPlaybackRate i time rate =
+    cond (ne (i .rate) rate) (record { start = i .start; rate = rate; offset = localTime i time -₃₂ (time -₃₂ i .start) *₃₂ rate }) i
+
+-- ---- a player's clip instances: start, rate and offset of each, in one list
+
+abbrev pub instanceAt : List Float → ℕ → ClipInstance
+instanceAt instances n = record { start = getD instances (3 * n) nan; rate = getD instances (3 * n + 1) nan; offset = getD instances (3 * n + 2) nan }
+
+abbrev pub setInstance : List Float → ℕ → ClipInstance → List Float
+setInstance instances n i = set (set (set instances (3 * n) (i .start)) (3 * n + 1) (i .rate)) (3 * n + 2) (i .offset)
+
+-- n blank ones: start time 0, rate 1, offset 0
+unfoldable pub blankInstances : ℕ → List Float
+blankInstances zero = []
+blankInstances (suc n) = 0f ∷ 1f ∷ 0f ∷ blankInstances n
+
+-- ---- a clip
+
+module _ (plan : List ℕ) (numbers : List Float) where
+  unfoldable pub duration : ℕ → Float
+  duration c = indexFloat (sampleCount plan c) /₃₂ number plan numbers (Rate c)
+
+  -- the pose of joint j at a position of clip c
+  unfoldable pub poseAt : ℕ → ℕ → Float → Pose
+  poseAt c j position =
+      let n = sampleCount plan c in
+      lerp (samplePose plan numbers c (firstIndex n position) j) (samplePose plan numbers c (secondIndex n position) j) (factor position)
+
+  -- at a local time: position = local time × rate
+  unfoldable pub clipPose : ℕ → ℕ → Float → Pose
+  clipPose c j local = poseAt c j (local *₃₂ number plan numbers (Rate c))

@@ -1,0 +1,156 @@
+-- Document 01, "Controller (controller.rs)", up to step 2 of a frame. Definitions only.
+use Prim.Native.Nat.{ℕ, zero, suc, _*_}
+use mathlib.Core.Bool.{Bool, true, cond}
+use mathlib.Core.List.{List}
+use lib.ListN.{set, length, replicate}
+use lib.Dec.{leb, ltb, eqb}
+use lib.Ieee.{Float, lt, le, eq, ne}
+use Rattle.model.specs.declared.Transition.{Transition}
+use Rattle.model.specs.declared.Transition.the-variants.{Idle, Running}
+use Rattle.model.specs.declared.Player.{Player}
+use Rattle.model.specs.declared.Pose.{Pose}
+use Rattle.model.specs.Numbers.{_+₆₄_, _-₆₄_, _*₆₄_, _/₆₄_, 0f, 1f, narrow}
+use Rattle.model.specs.Answers.{Verdict, _then_, require}
+use Rattle.model.specs.Pose.{lerp}
+use Rattle.model.specs.Plan.{maxParameters, maxClipNodes, jointCount, stateCount, initialState, transitionCount, conditionParameter, operator, targetState, number, Value, Duration}
+use Rattle.model.specs.Check.{check}
+use Rattle.model.specs.Clips.{blankInstances}
+use Rattle.model.specs.Tree.{parameter, synchronize, statePose}
+
+-- ---- players
+
+-- a refused start's player is blank
+unfoldable pub blank : Player
+blank = record { clock = 0f; speed = 1f; state = 0; transition = Idle; parameters = replicate maxParameters 0f; instances = blankInstances maxClipNodes }
+
+-- the player p with one part replaced
+abbrev pub withClock : Player → Float → Player
+withClock p x = record { clock = x; speed = p .speed; state = p .state; transition = p .transition; parameters = p .parameters; instances = p .instances }
+
+abbrev pub withSpeed : Player → Float → Player
+withSpeed p x = record { clock = p .clock; speed = x; state = p .state; transition = p .transition; parameters = p .parameters; instances = p .instances }
+
+abbrev pub withState : Player → ℕ → Player
+withState p x = record { clock = p .clock; speed = p .speed; state = x; transition = p .transition; parameters = p .parameters; instances = p .instances }
+
+abbrev pub withTransition : Player → Transition → Player
+withTransition p x = record { clock = p .clock; speed = p .speed; state = p .state; transition = x; parameters = p .parameters; instances = p .instances }
+
+abbrev pub withParameters : Player → List Float → Player
+withParameters p x = record { clock = p .clock; speed = p .speed; state = p .state; transition = p .transition; parameters = x; instances = p .instances }
+
+abbrev pub withInstances : Player → List Float → Player
+withInstances p x = record { clock = p .clock; speed = p .speed; state = p .state; transition = p .transition; parameters = p .parameters; instances = x }
+
+-- ---- start
+
+-- the first n states synchronised at time 0 with all parameters 0
+unfoldable pub synchronizeStates : List ℕ → List Float → ℕ → List Float → List Float
+synchronizeStates plan numbers zero instances = instances
+synchronizeStates plan numbers (suc s) instances = synchronize plan numbers (replicate maxParameters 0f) 0f s (synchronizeStates plan numbers s instances)
+
+-- a fresh player is the blank one put in the plan's initial state, every state then synchronised
+unfoldable pub fresh : List ℕ → List Float → Player
+fresh plan numbers = withInstances (withState blank (initialState plan)) (synchronizeStates plan numbers (stateCount plan) (blank .instances))
+
+-- ---- update, speed, set
+
+abbrev pub updated : Player → Float → Player
+updated p delta = withClock p (p .clock +₆₄ delta *₆₄ p .speed)
+
+abbrev pub parameterSet : Player → ℕ → Float → Player
+parameterSet p n v = withParameters p (set (p .parameters) n v)
+
+-- 8: parameter number 32 or above
+abbrev pub setVerdict : ℕ → Verdict
+setVerdict n = require (ltb n maxParameters) 8 0
+
+-- ---- a frame's refusals: 1 to 7 as at start; 9: current state or running target not below S; 10: output shorter than 16 × J
+
+unfoldable pub isTargetBelow : ℕ → Transition → Bool
+isTargetBelow n Idle = true
+isTargetBelow n (Running start target duration) = ltb target n
+
+unfoldable pub frameVerdict : List ℕ → List Float → Player → ℕ → Verdict
+frameVerdict plan numbers p outputLength =
+    check plan (length numbers) then
+    require (ltb (p .state) (stateCount plan)) 9 0 then
+    require (isTargetBelow (stateCount plan) (p .transition)) 9 0 then
+    require (leb (16 * jointCount plan) outputLength) 10 0
+
+-- ---- step 1
+
+unfoldable pub nowAt : Player → Float → Float
+nowAt p ext = p .clock +₆₄ ext
+
+-- now is at least start + duration, widened and summed in 64 bits
+unfoldable pub isEnded : Float → Float → Float → Bool
+isEnded now start duration = le (start +₆₄ duration) now
+
+-- operators 0..5: less, at most, greater, at least, equal, unequal
+unfoldable pub holds : ℕ → Float → Float → Bool
+holds op p v =
+    cond (eqb op 0) (lt p v)
+    (cond (eqb op 1) (le p v)
+    (cond (eqb op 2) (lt v p)
+    (cond (eqb op 3) (le v p)
+    (cond (eqb op 4) (eq p v) (ne p v)))))
+
+module _ (plan : List ℕ) (numbers : List Float) where
+  -- the condition of transition t of state s, and that transition begun
+  abbrev pub conditionHolds : List Float → ℕ → ℕ → Bool
+  conditionHolds parameters s t = holds (operator plan s t) (parameter parameters (conditionParameter plan s t)) (number plan numbers (Value s t))
+
+  abbrev pub begun : Float → ℕ → ℕ → Transition
+  begun now s t = Running now (targetState plan s t) (number plan numbers (Duration s t))
+
+  -- the first of the n transitions from t on whose condition holds starts at now
+  unfoldable pub firstPassing : List Float → Float → ℕ → ℕ → ℕ → Transition
+  firstPassing parameters now s t zero = Idle
+  firstPassing parameters now s t (suc n) = cond (conditionHolds parameters s t) (begun now s t) (firstPassing parameters now s (suc t) n)
+
+  -- in a transition: if it has ended, the target becomes current and the player idle. Idle: the first listed transition is tried. One of these a frame
+  unfoldable pub stepFrom : Float → Player → Transition → Player
+  stepFrom now p Idle = withTransition p (firstPassing (p .parameters) now (p .state) 0 (transitionCount plan (p .state)))
+  stepFrom now p (Running start target duration) = cond (isEnded now start duration) (withTransition (withState p target) Idle) p
+
+  abbrev pub stepped : Float → Player → Player
+  stepped now p = stepFrom now p (p .transition)
+
+-- ---- step 2, of a player that made step 1
+
+unfoldable pub elapsed : Player → Float → Float
+elapsed p ext = narrow (p .clock +₆₄ ext *₆₄ p .speed)
+
+-- the duration widened first
+unfoldable pub transitionFactor : Float → Float → Float → Float
+transitionFactor now start duration = narrow ((now -₆₄ start) /₆₄ duration)
+
+module _ (plan : List ℕ) (numbers : List Float) (time : Float) (p : Player) where
+  -- the current state is synchronised; in a transition, then the target too
+  unfoldable pub currentInstances : List Float
+  currentInstances = synchronize plan numbers (p .parameters) time (p .state) (p .instances)
+
+  unfoldable pub targetInstances : ℕ → List Float
+  targetInstances target = synchronize plan numbers (p .parameters) time target currentInstances
+
+  unfoldable pub instancesIn : Transition → List Float
+  instancesIn Idle = currentInstances
+  instancesIn (Running start target duration) = targetInstances target
+
+  abbrev pub synchronized : Player
+  synchronized = withInstances p (instancesIn (p .transition))
+
+  -- each state's pose of joint j, and in a transition the lerp from the current state's to the target's
+  unfoldable pub currentPose : ℕ → Pose
+  currentPose j = statePose plan numbers (p .parameters) time (p .state) currentInstances j
+
+  unfoldable pub targetPose : ℕ → ℕ → Pose
+  targetPose target j = statePose plan numbers (p .parameters) time target (targetInstances target) j
+
+  unfoldable pub poseIn : Float → ℕ → Transition → Pose
+  poseIn now j Idle = currentPose j
+  poseIn now j (Running start target duration) = lerp (currentPose j) (targetPose target j) (transitionFactor now start duration)
+
+  abbrev pub jointPose : Float → ℕ → Pose
+  jointPose now j = poseIn now j (p .transition)

@@ -1,0 +1,191 @@
+-- Document 01, "Plan and numbers (anew)": the limits, and where each word and each number stands. Definitions only.
+-- Nothing outside this file adds offsets to the place of a word or a number.
+use Prim.Native.Nat.{ℕ, zero, suc, _+_, _*_}
+use mathlib.Core.Bool.{Bool, cond}
+use mathlib.Core.List.{List}
+use lib.ListN.{getD}
+use lib.Dec.{eqb}
+use lib.Ieee.{Float, nan}
+use Rattle.model.specs.declared.Pose.{Pose}
+use Rattle.model.specs.Rotations.{quaternion}
+use Rattle.model.specs.Pose.{vector}
+
+-- ---- limits
+
+abbrev pub maxJoints : ℕ
+maxJoints = 64
+
+abbrev pub maxClips : ℕ
+maxClips = 16
+
+abbrev pub maxParameters : ℕ
+maxParameters = 32
+
+abbrev pub maxStates : ℕ
+maxStates = 16
+
+abbrev pub maxSamples : ℕ
+maxSamples = 4096
+
+abbrev pub maxNodes : ℕ
+maxNodes = 31
+
+abbrev pub maxTransitions : ℕ
+maxTransitions = 16
+
+abbrev pub maxClipNodes : ℕ
+maxClipNodes = 64
+
+-- ---- the words: header, parents, sample counts
+
+unfoldable pub word : List ℕ → ℕ → ℕ
+word plan i = getD plan i 0
+
+-- J, C, P, S and the initial state stand at 0 to 4
+unfoldable pub jointCount : List ℕ → ℕ
+jointCount plan = word plan 0
+
+unfoldable pub clipCount : List ℕ → ℕ
+clipCount plan = word plan 1
+
+-- P readable parameters
+unfoldable pub parameterCount : List ℕ → ℕ
+parameterCount plan = word plan 2
+
+unfoldable pub stateCount : List ℕ → ℕ
+stateCount plan = word plan 3
+
+unfoldable pub initialState : List ℕ → ℕ
+initialState plan = word plan 4
+
+abbrev pub parentAt : ℕ → ℕ
+parentAt j = 5 + j
+
+unfoldable pub parent : List ℕ → ℕ → ℕ
+parent plan j = word plan (parentAt j)
+
+unfoldable pub isRoot : List ℕ → ℕ → Bool
+isRoot plan j = eqb (parent plan j) 255
+
+unfoldable pub sampleCountAt : List ℕ → ℕ → ℕ
+sampleCountAt plan c = parentAt (jointCount plan) + c
+
+-- N of clip c
+unfoldable pub sampleCount : List ℕ → ℕ → ℕ
+sampleCount plan c = word plan (sampleCountAt plan c)
+
+-- ---- the words of a state: K, its nodes, T, its transitions
+
+-- for a state whose K stands at k: the place of its T, and the place after its transitions
+unfoldable pub afterNodes : List ℕ → ℕ → ℕ
+afterNodes plan k = k + 1 + 4 * word plan k
+
+unfoldable pub afterTransitions : List ℕ → ℕ → ℕ
+afterTransitions plan k = afterNodes plan k + 1 + 3 * word plan (afterNodes plan k)
+
+-- the place of K of state s
+unfoldable pub stateAt : List ℕ → ℕ → ℕ
+stateAt plan zero = sampleCountAt plan (clipCount plan)
+stateAt plan (suc s) = afterTransitions plan (stateAt plan s)
+
+unfoldable pub nodeCount : List ℕ → ℕ → ℕ
+nodeCount plan s = word plan (stateAt plan s)
+
+unfoldable pub nodeAt : List ℕ → ℕ → ℕ → ℕ
+nodeAt plan s i = stateAt plan s + 1 + 4 * i
+
+unfoldable pub kind : List ℕ → ℕ → ℕ → ℕ
+kind plan s i = word plan (nodeAt plan s i)
+
+-- kind 0 is a clip, 1 lerp, 2 additive
+unfoldable pub isClip : List ℕ → ℕ → ℕ → Bool
+isClip plan s i = eqb (kind plan s i) 0
+
+unfoldable pub isLerp : List ℕ → ℕ → ℕ → Bool
+isLerp plan s i = eqb (kind plan s i) 1
+
+-- a: the clip of a clip node, the first input of another
+unfoldable pub inputA : List ℕ → ℕ → ℕ → ℕ
+inputA plan s i = word plan (nodeAt plan s i + 1)
+
+unfoldable pub inputB : List ℕ → ℕ → ℕ → ℕ
+inputB plan s i = word plan (nodeAt plan s i + 2)
+
+unfoldable pub nodeParameter : List ℕ → ℕ → ℕ → ℕ
+nodeParameter plan s i = word plan (nodeAt plan s i + 3)
+
+unfoldable pub transitionCountAt : List ℕ → ℕ → ℕ
+transitionCountAt plan s = afterNodes plan (stateAt plan s)
+
+unfoldable pub transitionCount : List ℕ → ℕ → ℕ
+transitionCount plan s = word plan (transitionCountAt plan s)
+
+unfoldable pub transitionAt : List ℕ → ℕ → ℕ → ℕ
+transitionAt plan s t = transitionCountAt plan s + 1 + 3 * t
+
+unfoldable pub conditionParameter : List ℕ → ℕ → ℕ → ℕ
+conditionParameter plan s t = word plan (transitionAt plan s t)
+
+unfoldable pub operator : List ℕ → ℕ → ℕ → ℕ
+operator plan s t = word plan (transitionAt plan s t + 1)
+
+unfoldable pub targetState : List ℕ → ℕ → ℕ → ℕ
+targetState plan s t = word plan (transitionAt plan s t + 2)
+
+-- the place after the last state
+unfoldable pub planEnd : List ℕ → ℕ
+planEnd plan = stateAt plan (stateCount plan)
+
+-- ---- counts over states and clips
+
+-- f 0 + .. + f (n - 1)
+unfoldable pub total : (ℕ → ℕ) → ℕ → ℕ
+total f zero = 0
+total f (suc n) = total f n + f n
+
+-- how many of the first i nodes of state s are clips
+unfoldable pub clipNodesAmong : List ℕ → ℕ → ℕ → ℕ
+clipNodesAmong plan s i = total (λ k. cond (isClip plan s k) 1 0) i
+
+unfoldable pub clipNodesBefore : List ℕ → ℕ → ℕ
+clipNodesBefore plan s = total (λ u. clipNodesAmong plan u (nodeCount plan u)) s
+
+-- the number of clip node i of state s, counted from 0 over all states
+unfoldable pub clipNode : List ℕ → ℕ → ℕ → ℕ
+clipNode plan s i = clipNodesBefore plan s + clipNodesAmong plan s i
+
+unfoldable pub transitionsBefore : List ℕ → ℕ → ℕ
+transitionsBefore plan s = total (transitionCount plan) s
+
+unfoldable pub samplesBefore : List ℕ → ℕ → ℕ
+samplesBefore plan c = total (sampleCount plan) c
+
+-- ---- the numbers
+
+-- What a number is: a clip's rate; a transition's value or duration, by state and transition; one of the eight floats of a pose, by clip, sample, joint and float
+pub data NumberName : Type 0 where
+  Rate : ℕ → NumberName
+  Value Duration : ℕ → ℕ → NumberName
+  PoseFloat : ℕ → ℕ → ℕ → ℕ → NumberName
+
+unfoldable pub posesAt : List ℕ → ℕ
+posesAt plan = clipCount plan + 2 * transitionsBefore plan (stateCount plan)
+
+unfoldable pub numberAt : List ℕ → NumberName → ℕ
+numberAt plan (Rate c) = c
+numberAt plan (Value s t) = clipCount plan + 2 * (transitionsBefore plan s + t)
+numberAt plan (Duration s t) = clipCount plan + 2 * (transitionsBefore plan s + t) + 1
+numberAt plan (PoseFloat c n j k) = posesAt plan + ((samplesBefore plan c + n) * jointCount plan + j) * 8 + k
+
+-- how many numbers the plan says
+unfoldable pub numbersLength : List ℕ → ℕ
+numbersLength plan = posesAt plan + samplesBefore plan (clipCount plan) * jointCount plan * 8
+
+unfoldable pub number : List ℕ → List Float → NumberName → Float
+number plan numbers name = getD numbers (numberAt plan name) nan
+
+-- clip c's pose of joint j in sample n
+unfoldable pub samplePose : List ℕ → List Float → ℕ → ℕ → ℕ → Pose
+samplePose plan numbers c n j =
+    let float : ℕ → Float = λ k. number plan numbers (PoseFloat c n j k) in
+    record { translation = vector (float 0) (float 1) (float 2); scale = float 3; rotation = quaternion (float 4) (float 5) (float 6) (float 7) }

@@ -1,0 +1,33 @@
+-- What each public call ensures: an equation for its entire outcome, refused or not, for each player and buffer afterwards. Definitions only.
+-- The calls' contracts cite these records, and so do the traces of demand 3.
+use Prim.Native.Nat.{ℕ}
+use mathlib.Core.Path.{_≡_}
+use mathlib.Core.List.{List}
+use lib.ListN.{length}
+use lib.Ieee.{Float}
+use Rattle.model.specs.declared.Player.{Player}
+use Rattle.model.specs.declared.Outcome.{Outcome}
+use Rattle.model.specs.Answers.{values, unlessRefused}
+use Rattle.model.specs.Controller.{withSpeed, updated, parameterSet, setVerdict, frameVerdict}
+use Rattle.model.specs.Skeleton.{written}
+use Rattle.model.specs.Run.{startVerdict, startPlayer, FrameKind, framePlayer, frameMatrices}
+
+pub record Started (plan : List ℕ) (numbers : List Float) (r : Outcome) : Type 0 where
+  pub answer : values (r .answer) ≡ startVerdict plan numbers
+  pub player : r .player ≡ startPlayer plan numbers
+
+pub record Updated (p : Player) (delta : Float) (r : Player) : Type 0 where
+  pub player : r ≡ updated p delta
+
+pub record SpeedSet (p : Player) (v : Float) (r : Player) : Type 0 where
+  pub player : r ≡ withSpeed p v
+
+pub record ParameterSet (p : Player) (n : ℕ) (v : Float) (r : Outcome) : Type 0 where
+  pub answer : values (r .answer) ≡ setVerdict n
+  pub player : r .player ≡ unlessRefused (setVerdict n) (parameterSet p n v) p
+
+-- a frame or a page frame; old and new are the output buffer before and after
+pub record Framed (kind : FrameKind) (plan : List ℕ) (numbers : List Float) (p : Player) (ext : Float) (old new : List Float) (r : Outcome) : Type 0 where
+  pub answer : values (r .answer) ≡ frameVerdict plan numbers p (length old)
+  pub player : r .player ≡ unlessRefused (frameVerdict plan numbers p (length old)) (framePlayer plan numbers p ext) p
+  pub output : new ≡ unlessRefused (frameVerdict plan numbers p (length old)) (written plan (frameMatrices plan numbers p ext kind) old) old

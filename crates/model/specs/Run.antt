@@ -1,0 +1,101 @@
+-- Document 01, the calls, and the run by definition with what is compared of it. Definitions only.
+use Prim.Native.Nat.{ℕ}
+use mathlib.Core.List.{List, [], _∷_, map}
+use lib.ListN.{getD, length}
+use lib.Ieee.{Float}
+use Rattle.model.specs.declared.Player.{Player}
+use Rattle.model.specs.declared.Transition.{Transition}
+use Rattle.model.specs.declared.Matrix4.{Matrix4}
+use Rattle.model.specs.Answers.{Verdict, accepted, unlessRefused}
+use Rattle.model.specs.Rotations.{identityMatrix, floats}
+use Rattle.model.specs.Plan.{jointCount}
+use Rattle.model.specs.Check.{check}
+use Rattle.model.specs.Controller.{blank, withSpeed, fresh, updated, parameterSet, setVerdict, frameVerdict, nowAt, stepped, elapsed, synchronized, jointPose}
+use Rattle.model.specs.Skeleton.{jointMatrices, pageMatrix}
+
+-- ---- start: the answer and the player
+
+unfoldable pub startVerdict : List ℕ → List Float → Verdict
+startVerdict plan numbers = check plan (length numbers)
+
+unfoldable pub startPlayer : List ℕ → List Float → Player
+startPlayer plan numbers = unlessRefused (startVerdict plan numbers) (fresh plan numbers) blank
+
+-- ---- a frame and a page frame: the player and the matrices of an accepted one
+
+pub data FrameKind : Type 0 where
+  ordinary page : FrameKind
+
+-- a page frame is as a frame, but each output's upper 3×3 is transposed at the end
+unfoldable pub shown : FrameKind → List Matrix4 → List Matrix4
+shown ordinary ms = ms
+shown page ms = map pageMatrix ms
+
+module _ (plan : List ℕ) (numbers : List Float) (p : Player) (ext : Float) where
+  -- step 1
+  abbrev pub frameStepped : Player
+  frameStepped = stepped plan numbers (nowAt p ext) p
+
+  unfoldable pub framePlayer : Player
+  framePlayer = synchronized plan numbers (elapsed p ext) frameStepped
+
+  unfoldable pub frameMatrices : FrameKind → List Matrix4
+  frameMatrices kind = shown kind (jointMatrices plan (jointPose plan numbers (elapsed p ext) frameStepped (nowAt p ext)) (jointCount plan))
+
+-- ---- calls
+
+pub data Call : Type 0 where
+  Update Speed : Float → Call
+  Set : ℕ → Float → Call
+  -- ext, and the output's length
+  Frame : FrameKind → Float → ℕ → Call
+
+unfoldable pub callVerdict : List ℕ → List Float → Player → Call → Verdict
+callVerdict plan numbers p (Update delta) = accepted []
+callVerdict plan numbers p (Speed v) = accepted []
+callVerdict plan numbers p (Set n v) = setVerdict n
+callVerdict plan numbers p (Frame kind ext outputLength) = frameVerdict plan numbers p outputLength
+
+unfoldable pub changed : List ℕ → List Float → Player → Call → Player
+changed plan numbers p (Update delta) = updated p delta
+changed plan numbers p (Speed v) = withSpeed p v
+changed plan numbers p (Set n v) = parameterSet p n v
+changed plan numbers p (Frame kind ext outputLength) = framePlayer plan numbers p ext
+
+-- a refused call leaves the player
+unfoldable pub after : List ℕ → List Float → Player → Call → Player
+after plan numbers p c = unlessRefused (callVerdict plan numbers p c) (changed plan numbers p c) p
+
+-- the 16 floats of each chosen joint: of a frame, and none of another call
+unfoldable pub chosenFloats : List ℕ → List Float → List ℕ → Player → Call → List (List Float)
+chosenFloats plan numbers chosen p (Update delta) = []
+chosenFloats plan numbers chosen p (Speed v) = []
+chosenFloats plan numbers chosen p (Set n v) = []
+chosenFloats plan numbers chosen p (Frame kind ext outputLength) = map (λ j. floats (getD (frameMatrices plan numbers p ext kind) j identityMatrix)) chosen
+
+-- ---- the run by definition
+
+-- what is compared after each call
+pub record Observation : Type 0 where
+  pub answer : Verdict
+  pub clock : Float
+  pub speed : Float
+  pub state : ℕ
+  -- idle or the transition's start, target and duration
+  pub transition : Transition
+  -- after an accepted frame the 16 floats of each chosen joint
+  pub matrices : List (List Float)
+
+unfoldable pub observation : Verdict → Player → List (List Float) → Observation
+observation v p ms = record { answer = v; clock = p .clock; speed = p .speed; state = p .state; transition = p .transition; matrices = unlessRefused v ms [] }
+
+module _ (plan : List ℕ) (numbers : List Float) (chosen : List ℕ) where
+  -- each call takes the player that the run got from the one before
+  unfoldable pub runFrom : Player → List Call → List Observation
+  runFrom p [] = []
+  runFrom p (c ∷ cs) =
+      observation (callVerdict plan numbers p c) (after plan numbers p c) (chosenFloats plan numbers chosen p c) ∷ runFrom (after plan numbers p c) cs
+
+  -- it starts with its own fresh player
+  unfoldable pub run : List Call → List Observation
+  run calls = runFrom (fresh plan numbers) calls

@@ -1,0 +1,44 @@
+-- Document 01, step 3 of a frame (skeleton.rs), and page matrices. Definitions only.
+use Prim.Native.Nat.{ℕ, _*_}
+use mathlib.Core.Bool.{cond}
+use mathlib.Core.List.{List, [], _∷_, _++_}
+use lib.ListN.{getD, drop}
+use lib.Ieee.{Float}
+use Rattle.model.specs.declared.Pose.{Pose}
+use Rattle.model.specs.declared.Matrix4.{Matrix4}
+use Rattle.model.specs.Rotations.{row, identityMatrix, product, floats}
+use Rattle.model.specs.Pose.{toMatrix}
+use Rattle.model.specs.Table.{tableTo}
+use Rattle.model.specs.Plan.{parent, isRoot, jointCount}
+
+-- the parent's matrix, the identity for a root
+unfoldable pub parentMatrix : List ℕ → List Matrix4 → ℕ → Matrix4
+parentMatrix plan earlier j = cond (isRoot plan j) identityMatrix (getD earlier (parent plan j) identityMatrix)
+
+module _ (plan : List ℕ) (poseOf : ℕ → Pose) where
+  -- parent's times its own
+  unfoldable pub jointMatrix : List Matrix4 → ℕ → Matrix4
+  jointMatrix earlier j = product (parentMatrix plan earlier j) (toMatrix (poseOf j))
+
+  -- of the first n joints
+  unfoldable pub jointMatrices : ℕ → List Matrix4
+  jointMatrices n = tableTo jointMatrix n
+
+-- the upper 3×3 transposed
+unfoldable pub pageMatrix : Matrix4 → Matrix4
+pageMatrix m =
+    record {
+      r0 = row (m .r0 .c0) (m .r1 .c0) (m .r2 .c0) (m .r0 .c3);
+      r1 = row (m .r0 .c1) (m .r1 .c1) (m .r2 .c1) (m .r1 .c3);
+      r2 = row (m .r0 .c2) (m .r1 .c2) (m .r2 .c2) (m .r2 .c3);
+      r3 = m .r3;
+    }
+
+-- the matrices one after the other
+unfoldable pub flat : List Matrix4 → List Float
+flat [] = []
+flat (m ∷ ms) = floats m ++ flat ms
+
+-- the output; later floats in the buffer keep their contents
+unfoldable pub written : List ℕ → List Matrix4 → List Float → List Float
+written plan ms old = flat ms ++ drop (16 * jointCount plan) old

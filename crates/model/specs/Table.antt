@@ -1,0 +1,9 @@
+-- A list whose every element is made from those before it: the poses of a tree's nodes, the matrices of a skeleton's joints. Definitions only.
+use Prim.Native.Nat.{ℕ, zero, suc}
+use mathlib.Core.List.{List, [], _∷_, _++_}
+
+module _ {A : Type 0} (f : List A → ℕ → A) where
+  -- the first n elements; element i is f of the first i
+  unfoldable pub tableTo : ℕ → List A
+  tableTo zero = []
+  tableTo (suc n) = tableTo n ++ f (tableTo n) n ∷ []
