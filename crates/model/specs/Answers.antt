@@ -1,38 +1,37 @@
 -- Document 01, what an answer is, and how the first refusal is found. Definitions only.
 use Prim.Native.Nat.{ℕ, zero, suc}
 use mathlib.Core.Bool.{Bool, cond}
-use mathlib.Core.List.{List, []}
 use Rattle.model.specs.declared.Answer.{Answer}
 use Rattle.model.specs.declared.Answer.the-variants.{Accepted, Refused}
 
--- An answer is the acceptance, or the refusal's number, place and rest. The rest is what an acceptance of the same call carries, 0 in a refusal
+-- an answer is the acceptance, or the refusal's number, place and rest
 pub data Verdict : Type 0 where
-  accepted : (rest : List ℕ) → Verdict
-  refused : (number place : ℕ) (rest : List ℕ) → Verdict
+  accepted : Verdict
+  refused : (number place rest : ℕ) → Verdict
 
--- document 01's number and values for each case of the enum that start, set, frame and page frame answer: these carry no rest
+-- document 01's number and values for each case of the enum that start, set, frame and page frame answer: the rest of a refused answer is 0
 unfoldable pub values : Answer → Verdict
-values Accepted = accepted []
-values (Refused number place) = refused number place []
+values Accepted = accepted
+values (Refused number place) = refused number place 0
 
 -- ---- the first refusal
 
 -- of two
 infixl 20 _then_
 unfoldable pub _then_ : Verdict → Verdict → Verdict
-accepted rest then b = b
+accepted then b = b
 refused number place rest then b = refused number place rest
 
 -- of f 0, .., f (n - 1)
 unfoldable pub each : ℕ → (ℕ → Verdict) → Verdict
-each zero f = accepted []
+each zero f = accepted
 each (suc n) f = each n f then f n
 
 -- where the test fails
 unfoldable pub require : Bool → ℕ → ℕ → Verdict
-require ok number place = cond ok (accepted []) (refused number place [])
+require ok number place = cond ok accepted (refused number place 0)
 
 -- what was, where a call is refused
 unfoldable pub unlessRefused {ℓ} : {A : Type ℓ} → Verdict → A → A → A
-unlessRefused (accepted rest) new old = new
+unlessRefused accepted new old = new
 unlessRefused (refused number place rest) new old = old

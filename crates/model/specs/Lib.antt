@@ -13,3 +13,6 @@ pub mod Skeleton
 pub mod Run
 pub mod Unseen
 pub mod Promises
+-- what follows from them
+pub mod Laws
+pub mod Bench

@@ -51,8 +51,8 @@ pub data Call : Type 0 where
   Frame : FrameKind → Float → ℕ → Call
 
 unfoldable pub callVerdict : List ℕ → List Float → Player → Call → Verdict
-callVerdict plan numbers p (Update delta) = accepted []
-callVerdict plan numbers p (Speed v) = accepted []
+callVerdict plan numbers p (Update delta) = accepted
+callVerdict plan numbers p (Speed v) = accepted
 callVerdict plan numbers p (Set n v) = setVerdict n
 callVerdict plan numbers p (Frame kind ext outputLength) = frameVerdict plan numbers p outputLength
 

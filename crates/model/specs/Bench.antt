@@ -1,0 +1,156 @@
+-- Document 01, "Bench sheet": the cases a to l over the definitions, as one table; then its unmarked cases, the printed example and its traps.
+use Prim.Native.Nat.{ℕ, zero, suc, _+_, _*_, _<_}
+use native.Mathlib.Nat.{le-refl, le-of-eq, lt-irrefl, lt-of-lt-of-le, zero-lt-suc, mul-pos, zero-mul, sub-self}
+use mathlib.Core.Path.{_≡_, refl, sym, ap, _∙_}
+use mathlib.Core.Bool.{Bool, true, false, not}
+use mathlib.Core.List.{List, [], _∷_, _++_}
+use borrow.Author.Tests.{le-ltb}
+use lib.ListN.{replicate}
+use lib.IntN.{ℤ}
+use lib.Dec.{lit<}
+use lib.Ieee.{Float, nan, inf, fin, binary32, binary64, up, down, sum, round, sub, add, div, neg, toBits, ofBits}
+use lib.Ieee.Fits.{up-pos, down-pos}
+use lib.Ieee.Exact.{HasValue, round-exact}
+use Rattle.model.specs.declared.Pose.{Pose}
+use Rattle.model.specs.declared.Player.{Player}
+use Rattle.model.specs.declared.ClipInstance.{ClipInstance}
+use Rattle.model.specs.declared.Transition.the-variants.{Idle, Running}
+use Rattle.model.specs.Numbers.{_-₆₄_, 0f, 1f, half, threeHalves, narrow, firstGuess, invSqrt}
+use Rattle.model.specs.Rotations.{quaternion, entry, quaternionToMatrix}
+use Rattle.model.specs.Pose.{toMatrix}
+use Rattle.model.specs.Answers.{accepted, refused}
+use Rattle.model.specs.Clips.{firstIndex, secondIndex, factor, setPlaybackRate}
+use Rattle.model.specs.Tree.{targetLength, synchronizedRate}
+use Rattle.model.specs.Check.{check}
+use Rattle.model.specs.Controller.{withState, withTransition, nowAt, elapsed, isEnded, stepFrom, transitionFactor}
+use Rattle.model.specs.Run.{startVerdict, startPlayer, ordinary, Frame, chosenFloats}
+use Rattle.model.specs.Laws.Opened.{check-opened, floats-opened, all-opened}
+
+-- ---- floats by their bits
+
+abbrev 2f : Float
+2f = ofBits binary32 0x4000_0000
+
+abbrev 3f : Float
+3f = ofBits binary32 0x4040_0000
+
+abbrev 6f : Float
+6f = ofBits binary32 0x40c0_0000
+
+abbrev 8f : Float
+8f = ofBits binary32 0x4100_0000
+
+abbrev 2^64f : Float
+2^64f = ofBits binary32 0x5f80_0000
+
+abbrev 2·5f : Float
+2·5f = ofBits binary32 0x4020_0000
+
+abbrev 3·5f : Float
+3·5f = ofBits binary32 0x4060_0000
+
+abbrev -½f : Float
+-½f = ofBits binary32 0xbf00_0000
+
+abbrev instance : Float → Float → Float → ClipInstance
+instance start rate offset = record { start = start; rate = rate; offset = offset }
+
+-- ---- the sheet
+
+pub record Bench : Type 0 where
+  pub a : toBits binary32 (invSqrt 0f) ≡ 0x5f89_8367
+  pub b : firstGuess (toBits binary32 1f) ≡ 0x3f77_59df
+  pub c : firstGuess 0xbe6e_b3c0 ≡ 0x7fff_ffff
+  pub d : firstGuess 0xbe6e_b3bf ≡ 0x8000_0000
+  pub e : (firstIndex 4 3·5f ≡ 3) × (secondIndex 4 3·5f ≡ 0) × (factor 3·5f ≡ half)
+  pub f : (firstIndex 4 -½f ≡ 0) × (secondIndex 4 -½f ≡ 0) × (factor -½f ≡ -½f)
+  pub g : (firstIndex 4 2^64f ≡ 3) × (secondIndex 4 2^64f ≡ 3) × (factor 2^64f ≡ 0f)
+  -- 1 + 2^-24 and 1 + 3 × 2^-24 by their 64 bits, 1 + 2^-22 by its 32
+  pub h : (narrow (ofBits binary64 0x3ff0_0000_1000_0000) ≡ 1f) × (narrow (ofBits binary64 0x3ff0_0000_3000_0000) ≡ ofBits binary32 0x3f80_0002)
+  pub i : (synchronizedRate 2f (targetLength half 2f 6f) ≡ half) × (synchronizedRate 6f (targetLength half 2f 6f) ≡ threeHalves)
+  pub j : setPlaybackRate (instance 0f 1f 0f) 8f half ≡ instance 0f half (ofBits binary32 0x4080_0000)
+  pub k : (p : Player) → p .clock ≡ 2f → p .speed ≡ 3f → (nowAt p half ≡ 2·5f) × (elapsed p half ≡ 3·5f)
+  pub l : entry (quaternionToMatrix (quaternion half half half half)) 0 1 ≡ 1f
+
+moved : (p : Player) → p .clock ≡ 2f → p .speed ≡ 3f → (nowAt p half ≡ 2·5f) × (elapsed p half ≡ 3·5f)
+unfolding floats-opened
+moved p c s = (rw c, rw (c, s))
+
+pub bench : Bench
+unfolding floats-opened
+bench =
+    record { a = refl; b = refl; c = refl; d = refl; e = (refl, refl, refl); f = (refl, refl, refl); g = (refl, refl, refl); h = (refl, refl); i = (refl, refl); j = refl; k = moved; l = refl }
+
+-- ---- unmarked: J 64 passes, 65 is refused
+
+-- J roots, one clip of one sample, one state of one node; it wants 1 + 8 × J numbers
+unfoldable pub jointsPlan : ℕ → List ℕ
+jointsPlan n = n ∷ 1 ∷ 0 ∷ 1 ∷ 0 ∷ replicate n 255 ++ 1 ∷ 1 ∷ 0 ∷ 0 ∷ 0 ∷ 0 ∷ 0 ∷ []
+
+pub joints-64 : check (jointsPlan 64) (1 + 8 * 64) ≡ accepted
+unfolding check-opened jointsPlan
+joints-64 = refl
+
+pub joints-65 : (n : ℕ) → check (jointsPlan 65) n ≡ refused 2 0 0
+unfolding check-opened jointsPlan
+joints-65 n = refl
+
+-- ---- unmarked: duration 0 gives a NaN factor on its first frame, whatever now is
+
+zero-by-zero : (c : ℕ) (v : Float) → 0 < c → HasValue v false 0 c → div binary64 v 0f ≡ nan
+unfolding div ofBits
+zero-by-zero c nan p h = absurd h
+zero-by-zero c (inf t) p h = absurd h
+zero-by-zero c (fin t zero e) p h = refl
+zero-by-zero c (fin t (suc m) e) p h = absurd (lt-irrefl 0 (lt-of-lt-of-le (mul-pos (mul-pos (zero-lt-suc m) (up-pos e)) p) (le-of-eq (h .1 ∙ zero-mul (down e)))))
+
+difference : (s : Bool) (a c : ℕ) → sum binary64 s a (not s) a c ≡ round binary64 false 0 c
+unfolding sum
+difference true a c = rw (le-ltb a a (le-refl a), sub-self a)
+difference false a c = rw (le-ltb a a (le-refl a), sub-self a)
+
+self-difference : (s : Bool) (m : ℕ) (e : ℤ) → div binary64 (fin s m e -₆₄ fin s m e) 0f ≡ nan
+unfolding sub add neg
+self-difference s m e =
+    let c = down e * down e in
+    let p : 0 < c = mul-pos (down-pos e) (down-pos e) in
+    rw (difference s (m * up e * down e) c) (zero-by-zero c (round binary64 false 0 c) p (round-exact binary64 false 0 c 0 0 p (lit< tt) (lit< tt) (sym (zero-mul c))))
+
+pub duration-0 : (now : Float) → transitionFactor now now 0f ≡ nan
+unfolding transitionFactor narrow div sub add neg
+duration-0 nan = refl
+duration-0 (inf true) = refl
+duration-0 (inf false) = refl
+duration-0 (fin s m e) = ap narrow (self-difference s m e)
+
+-- ---- the printed example
+
+unfoldable pub printedPlan : List ℕ
+printedPlan = 1 ∷ 1 ∷ 0 ∷ 1 ∷ 0 ∷ 255 ∷ 1 ∷ 1 ∷ 0 ∷ 0 ∷ 0 ∷ 0 ∷ 0 ∷ []
+
+unfoldable pub printedNumbers : List Float
+printedNumbers = 1f ∷ 1f ∷ 2f ∷ 3f ∷ 1f ∷ 1f ∷ 0f ∷ 0f ∷ 0f ∷ []
+
+pub printed-starts : startVerdict printedPlan printedNumbers ≡ accepted
+unfolding all-opened printedPlan printedNumbers
+printed-starts = refl
+
+pub printed-shows :
+    chosenFloats printedPlan printedNumbers (0 ∷ []) (startPlayer printedPlan printedNumbers) (Frame ordinary 0f 16)
+    ≡ (1f ∷ 0f ∷ 0f ∷ 1f ∷ 0f ∷ 1f ∷ 0f ∷ 2f ∷ 0f ∷ 0f ∷ 1f ∷ 3f ∷ 0f ∷ 0f ∷ 0f ∷ 1f ∷ []) ∷ []
+unfolding all-opened printedPlan printedNumbers
+printed-shows = refl
+
+-- ---- traps (a true reciprocal root fails a, ext times speed in now fails k)
+
+-- scale in matrices: no pose's scale reaches its matrix
+pub no-scale : (p : Pose) (x : Float) → toMatrix (record { translation = p .translation; scale = x; rotation = p .rotation }) ≡ toMatrix p
+unfolding toMatrix
+no-scale p x = refl
+
+-- a second step in the frame that ends a transition: such a frame leaves the player idle, whatever conditions hold
+pub one-step : (plan : List ℕ) (numbers : List Float) (now : Float) (p : Player) (start : Float) (target : ℕ) (duration : Float)
+    → isEnded now start duration ≡ true
+    → stepFrom plan numbers now p (Running start target duration) ≡ withTransition (withState p target) Idle
+unfolding stepFrom
+one-step plan numbers now p start target duration e = rw e

@@ -1,0 +1,8 @@
+-- Laws about the definitions, for the proofs of the crates above: nothing here needs to be read to know what is claimed
+pub mod Opened
+pub mod Table
+pub mod Totals
+pub mod Answers
+pub mod Passed
+pub mod Numbers
+pub mod ClipNodes

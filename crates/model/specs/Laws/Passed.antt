@@ -1,0 +1,139 @@
+-- What a plan that passed the check is known to be.
+use Prim.Native.Nat.{ℕ, zero, suc, _+_, _≤_, _<_}
+use native.Mathlib.Omega.{arith}
+use mathlib.Core.Path.{_≡_, refl}
+use mathlib.Core.Bool.{Bool, true, false, _&&_, _||_}
+use mathlib.Core.List.{List}
+use lib.ListN.{length}
+use lib.Dec.{ltb, eqb}
+use borrow.Author.Tests.{ltb-true, leb-true, eqb-true}
+use Rattle.model.specs.Answers.{accepted, each}
+use Rattle.model.specs.Plan.{jointCount, clipCount, parameterCount, stateCount, initialState, parentAt, parent, isRoot, sampleCountAt, sampleCount, stateAt, nodeCount, nodeAt, isClip, inputA, inputB, transitionCountAt, transitionCount, transitionAt, conditionParameter, targetState, numbersLength}
+use Rattle.model.specs.Check.{wordIs, within, check, checkHeader, checkParent, checkSampleCount, checkNode, checkState, checkTransition}
+use Rattle.model.specs.Laws.Answers.{then-left, then-right, each-at, require-true}
+use Rattle.model.specs.Unseen.{Reachable, initial, target}
+
+-- ---- of a word and of tests
+
+word-true : (plan : List ℕ) (n p : ℕ) (ok : Bool) → wordIs plan n p ok ≡ accepted → ok ≡ true
+unfolding wordIs
+word-true plan n p ok e = require-true ok n p (then-right _ _ e)
+
+word-there : (plan : List ℕ) (n p : ℕ) (ok : Bool) → wordIs plan n p ok ≡ accepted → p < length plan
+unfolding wordIs
+word-there plan n p ok e = ltb-true _ _ (require-true (ltb p (length plan)) 1 (length plan) (then-left _ _ e))
+
+pub and-left : (a b : Bool) → a && b ≡ true → a ≡ true
+and-left true b e = refl
+and-left false b e = e
+
+pub and-right : (a b : Bool) → a && b ≡ true → b ≡ true
+and-right true b e = e
+and-right false b e = cc
+
+or-right : (a b : Bool) → a || b ≡ true → a ≡ false → b ≡ true
+or-right true b e f = cc
+or-right false b e f = e
+
+-- ---- of a plan
+
+module _ (plan : List ℕ) (n : ℕ) (ok : check plan n ≡ accepted) where
+  -- the check's six parts
+  header-passed : checkHeader plan ≡ accepted
+  unfolding check
+  header-passed = then-left _ _ (then-left _ _ (then-left _ _ (then-left _ _ (then-left _ _ ok))))
+
+  parents-passed : each (jointCount plan) (checkParent plan) ≡ accepted
+  unfolding check
+  parents-passed = then-right _ _ (then-left _ _ (then-left _ _ (then-left _ _ (then-left _ _ ok))))
+
+  counts-passed : each (clipCount plan) (checkSampleCount plan) ≡ accepted
+  unfolding check
+  counts-passed = then-right _ _ (then-left _ _ (then-left _ _ (then-left _ _ ok)))
+
+  states-passed : each (stateCount plan) (checkState plan) ≡ accepted
+  unfolding check
+  states-passed = then-right _ _ (then-left _ _ (then-left _ _ ok))
+
+  -- what follows
+  pub initial-below : initialState plan < stateCount plan
+  unfolding checkHeader
+  initial-below = ltb-true _ _ (word-true _ _ _ _ (then-right _ _ header-passed))
+
+  pub parent-earlier : (j : ℕ) → j < jointCount plan → isRoot plan j ≡ false → parent plan j < j
+  unfolding checkParent
+  parent-earlier j h e = ltb-true _ _ (or-right (isRoot plan j) (ltb (parent plan j) j) (word-true _ _ _ _ (each-at _ _ parents-passed j h)) e)
+
+  pub some-samples : (c : ℕ) → c < clipCount plan → 0 < sampleCount plan c
+  unfolding checkSampleCount within
+  some-samples c h = leb-true _ _ (and-left _ _ (word-true _ _ _ _ (each-at _ _ counts-passed c h)))
+
+  module _ (s : ℕ) (below : s < stateCount plan) where
+    state-passed : checkState plan s ≡ accepted
+    state-passed = each-at _ _ states-passed s below
+
+    node-passed : (i : ℕ) → i < nodeCount plan s → checkNode plan s i ≡ accepted
+    unfolding checkState
+    node-passed i h = each-at _ _ (then-right _ _ (then-left _ _ (then-left _ _ (then-left _ _ state-passed)))) i h
+
+    pub target-below : (t : ℕ) → t < transitionCount plan s → targetState plan s t < stateCount plan
+    unfolding checkState checkTransition
+    target-below t h = ltb-true _ _ (word-true _ _ _ _ (then-right _ _ (each-at _ _ (then-right _ _ state-passed) t h)))
+
+    pub condition-below : (t : ℕ) → t < transitionCount plan s → conditionParameter plan s t < parameterCount plan
+    unfolding checkState checkTransition
+    condition-below t h = ltb-true _ _ (word-true _ _ _ _ (then-left _ _ (then-left _ _ (each-at _ _ (then-right _ _ state-passed) t h))))
+
+    pub clip-below : (i : ℕ) → i < nodeCount plan s → isClip plan s i ≡ true → inputA plan s i < clipCount plan
+    unfolding checkNode
+    clip-below i h e = ltb-true _ _ (rw e at (word-true _ _ _ _ (then-right _ _ (then-left _ _ (then-left _ _ (node-passed i h))))))
+
+    pub a-earlier : (i : ℕ) → i < nodeCount plan s → isClip plan s i ≡ false → inputA plan s i < i
+    unfolding checkNode
+    a-earlier i h e = ltb-true _ _ (and-left _ _ (rw e at (word-true _ _ _ _ (then-right _ _ (then-left _ _ (then-left _ _ (node-passed i h)))))))
+
+    pub b-earlier : (i : ℕ) → i < nodeCount plan s → isClip plan s i ≡ false → inputB plan s i < i
+    unfolding checkNode
+    b-earlier i h e = ltb-true _ _ (and-left _ _ (and-left _ _ (rw e at (word-true _ _ _ _ (then-right _ _ (then-left _ _ (node-passed i h)))))))
+
+    -- ---- every word is there
+
+    pub state-there : stateAt plan s < length plan
+    unfolding checkState
+    state-there = word-there _ _ _ _ (then-left _ _ (then-left _ _ (then-left _ _ (then-left _ _ state-passed))))
+
+    pub node-there : (i : ℕ) → i < nodeCount plan s → nodeAt plan s i + 3 < length plan
+    unfolding checkNode
+    node-there i h = word-there _ _ _ _ (then-right _ _ (node-passed i h))
+
+    pub count-of-transitions-there : transitionCountAt plan s < length plan
+    unfolding checkState
+    count-of-transitions-there = word-there _ _ _ _ (then-right _ _ (then-left _ _ state-passed))
+
+    pub transition-there : (t : ℕ) → t < transitionCount plan s → transitionAt plan s t + 2 < length plan
+    unfolding checkState checkTransition
+    transition-there t h = word-there _ _ _ _ (then-right _ _ (each-at _ _ (then-right _ _ state-passed) t h))
+
+  pub header-there : 4 < length plan
+  unfolding checkHeader
+  header-there = word-there _ _ _ _ (then-right _ _ header-passed)
+
+  pub few-parameters : parameterCount plan ≤ 32
+  unfolding checkHeader
+  few-parameters = leb-true _ _ (word-true _ _ _ _ (then-right _ _ (then-left _ _ (then-left _ _ header-passed))))
+
+  pub parent-there : (j : ℕ) → j < jointCount plan → parentAt j < length plan
+  unfolding checkParent
+  parent-there j h = word-there _ _ _ _ (each-at _ _ parents-passed j h)
+
+  pub sample-count-there : (c : ℕ) → c < clipCount plan → sampleCountAt plan c < length plan
+  unfolding checkSampleCount
+  sample-count-there c h = word-there _ _ _ _ (each-at _ _ counts-passed c h)
+
+  pub numbers-fit : n ≡ numbersLength plan
+  unfolding check
+  numbers-fit = eqb-true _ _ (require-true _ _ _ (then-right _ _ ok))
+
+  pub reachable-below : {s : ℕ} → Reachable plan s → s < stateCount plan
+  reachable-below initial = initial-below
+  reachable-below (target r t h) = target-below _ (reachable-below r) t h
