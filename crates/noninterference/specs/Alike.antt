@@ -1,0 +1,40 @@
+-- Document 01, "Unseen by the chosen joints": when two figures' numbers, and two lists of calls, are alike apart from the unseen. Definitions only.
+-- The two plans are alike word for word: one plan stands for both.
+use Prim.Native.Nat.{ℕ, _<_}
+use mathlib.Core.Path.{_≡_}
+use mathlib.Core.Bool.{false}
+use mathlib.Core.List.{List, [], _∷_, List·Memᴰ}
+use lib.ListN.{length, getD}
+use lib.Ieee.{Float, nan}
+use Rattle.model.specs.Plan.{jointCount, parent, isRoot, NumberName, numberAt}
+use Rattle.model.specs.Run.{FrameKind, Call, Update, Speed, Set, Frame}
+use Rattle.model.specs.Unseen.{Read, InPlan, Unseen}
+
+-- any closed set of chosen joints: the parent of a chosen joint that is no root is chosen
+pub record Closed (plan chosen : List ℕ) : Type 0 where
+  pub are-joints : (j : ℕ) → List·Memᴰ j chosen → j < jointCount plan
+  pub parents : (j : ℕ) → List·Memᴰ j chosen → isRoot plan j ≡ false → List·Memᴰ (parent plan j) chosen
+
+-- an unseen number stands at place k
+pub record UnseenAt (plan chosen : List ℕ) (k : ℕ) : Type 0 where
+  pub name : NumberName
+  pub in-plan : InPlan plan name
+  pub here : numberAt plan name ≡ k
+  pub unseen : Unseen plan chosen name
+
+-- otherwise alike: numbers place by place
+pub record AlikeNumbers (plan chosen : List ℕ) (a b : List Float) : Type 0 where
+  pub lengths : length a ≡ length b
+  pub places : (k : ℕ) → k < length a → ¬ UnseenAt plan chosen k → getD a k nan ≡ getD b k nan
+
+-- calls in kind, arguments and output length, but for values set on parameters that are not read
+pub data AlikeCall (plan : List ℕ) : Call → Call → Type 0 where
+  updates : (delta : Float) → AlikeCall plan (Update delta) (Update delta)
+  speeds : (v : Float) → AlikeCall plan (Speed v) (Speed v)
+  sets : (n : ℕ) (v w : Float) → (¬ ¬ Read plan n → v ≡ w) → AlikeCall plan (Set n v) (Set n w)
+  frames : (kind : FrameKind) (ext : Float) (outputLength : ℕ) → AlikeCall plan (Frame kind ext outputLength) (Frame kind ext outputLength)
+
+-- one by one
+pub data AlikeCalls (plan : List ℕ) : List Call → List Call → Type 0 where
+  none : AlikeCalls plan [] []
+  next : {c d : Call} {cs ds : List Call} → AlikeCall plan c d → AlikeCalls plan cs ds → AlikeCalls plan (c ∷ cs) (d ∷ ds)

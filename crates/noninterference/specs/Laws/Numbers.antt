@@ -1,0 +1,77 @@
+-- Two lists of numbers alike but for the unseen hold the same under each name that can be seen.
+use Prim.Native.Nat.{ℕ, _<_}
+use native.Mathlib.Omega.{arith}
+use native.Mathlib.Nat.{mod-lt}
+use mathlib.Core.Path.{_≡_, subst}
+use mathlib.Core.Logic.{inl, inr}
+use mathlib.Core.List.{List, List·Memᴰ}
+use lib.ListN.{length}
+use lib.Ieee.{Float}
+use Rattle.model.specs.Numbers.{_*₃₂_}
+use Rattle.model.specs.Answers.{accepted}
+use Rattle.model.specs.Plan.{clipCount, stateCount, transitionCount, sampleCount, NumberName, Rate, Value, Duration, PoseFloat, numberAt, number, samplePose}
+use Rattle.model.specs.Check.{check}
+use Rattle.model.specs.Clips.{firstIndex, secondIndex, duration, poseAt, clipPose}
+use Rattle.model.specs.Unseen.{Reachable, Played, plays, InPlan, Unseen}
+use Rattle.model.specs.Laws.Passed.{numbers-fit, some-samples, clip-below, reachable-below}
+use Rattle.model.specs.Laws.Numbers.{number-inside, one-name}
+use Rattle.noninterference.specs.Alike.{Closed, AlikeNumbers}
+
+module _ (plan chosen : List ℕ) (a b : List Float) (ok : check plan (length a) ≡ accepted) (closed : Closed plan chosen) (alike : AlikeNumbers plan chosen a b) where
+  seen-same : (name : NumberName) → InPlan plan name → ¬ Unseen plan chosen name → number plan a name ≡ number plan b name
+  unfolding number
+  seen-same name h seen =
+      alike .places (numberAt plan name) (omega (arith, number-inside plan name h, numbers-fit plan (length a) ok))
+      (λ u. seen (subst (Unseen plan chosen) (one-name plan (u .name) name (u .in-plan) h (u .here)) (u .unseen)))
+
+  -- ---- transitions of reachable states
+
+  below : {s : ℕ} → Reachable plan s → s < stateCount plan
+  below r = reachable-below plan (length a) ok r
+
+  pub value-same : {s : ℕ} → Reachable plan s → (t : ℕ) → t < transitionCount plan s → number plan a (Value s t) ≡ number plan b (Value s t)
+  value-same {s} r t h = seen-same (Value s t) (below r, h) (λ u. u r)
+
+  pub transition-duration-same : {s : ℕ} → Reachable plan s → (t : ℕ) → t < transitionCount plan s → number plan a (Duration s t) ≡ number plan b (Duration s t)
+  transition-duration-same {s} r t h = seen-same (Duration s t) (below r, h) (λ u. u r)
+
+  -- ---- clips that are played, at chosen joints
+
+  played-below : {c : ℕ} → Played plan c → c < clipCount plan
+  played-below (plays r i h e) = clip-below plan (length a) ok _ (below r) i h e
+
+  rate-same : {c : ℕ} → Played plan c → number plan a (Rate c) ≡ number plan b (Rate c)
+  rate-same {c} p = seen-same (Rate c) (played-below p) (λ u. u p)
+
+  pub duration-same : {c : ℕ} → Played plan c → duration plan a c ≡ duration plan b c
+  unfolding duration
+  duration-same p = rw (rate-same p)
+
+  module _ {c j : ℕ} (p : Played plan c) (m : List·Memᴰ j chosen) where
+    float-same : (n k : ℕ) → n < sampleCount plan c → k < 8 → number plan a (PoseFloat c n j k) ≡ number plan b (PoseFloat c n j k)
+    float-same n k h hk = seen-same (PoseFloat c n j k) (played-below p, h, closed .are-joints j m, hk) seen
+      where
+        seen : ¬ Unseen plan chosen (PoseFloat c n j k)
+        seen (inl u) = u m
+        seen (inr u) = u p
+
+    sample-same : (n : ℕ) → n < sampleCount plan c → samplePose plan a c n j ≡ samplePose plan b c n j
+    unfolding samplePose
+    sample-same n h =
+        rw (
+          float-same n 0 h (omega arith),
+          float-same n 1 h (omega arith),
+          float-same n 2 h (omega arith),
+          float-same n 3 h (omega arith),
+          float-same n 4 h (omega arith),
+          float-same n 5 h (omega arith),
+          float-same n 6 h (omega arith),
+          float-same n 7 h (omega arith),
+        )
+
+    pub clip-same : (local : Float) → clipPose plan a c j local ≡ clipPose plan b c j local
+    unfolding clipPose poseAt firstIndex secondIndex
+    clip-same local =
+        let n : 0 < sampleCount plan c = some-samples plan (length a) ok c (played-below p) in
+        let x = local *₃₂ number plan b (Rate c) in
+        rw (rate-same p, sample-same (firstIndex (sampleCount plan c) x) (mod-lt _ n), sample-same (secondIndex (sampleCount plan c) x) (mod-lt _ n))

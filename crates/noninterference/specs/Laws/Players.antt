@@ -1,0 +1,257 @@
+-- Two players that are alike in all that can be seen, now or later. Each call keeps them so and shows the same.
+use Prim.Native.Nat.{ℕ, zero, suc, _+_, _≤_, _<_}
+use native.Mathlib.Omega.{arith}
+use mathlib.Core.Path.{_≡_, refl, sym, ap, _∙_, subst}
+use mathlib.Core.Bool.{true, false}
+use mathlib.Core.List.{List, List·Memᴰ}
+use lib.ListN.{length, getD, replicate, List·getD-map}
+use lib.Ieee.{Float, nan}
+use Rattle.model.specs.declared.Pose.{Pose}
+use Rattle.model.specs.declared.Matrix4.{Matrix4}
+use Rattle.model.specs.declared.Player.{Player}
+use Rattle.model.specs.declared.Transition.{Transition}
+use Rattle.model.specs.declared.Transition.the-variants.{Idle, Running}
+use Rattle.model.specs.Numbers.{0f}
+use Rattle.model.specs.Rotations.{identityMatrix, product, floats}
+use Rattle.model.specs.Pose.{toMatrix}
+use Rattle.model.specs.Answers.{Verdict, accepted, refused, unlessRefused}
+use Rattle.model.specs.Plan.{maxParameters, jointCount, stateCount, parent, isRoot, transitionCount}
+use Rattle.model.specs.Check.{check}
+use Rattle.model.specs.Controller.{blank, withSpeed, withState, withTransition, synchronizeStates, fresh, updated, parameterSet, frameVerdict, nowAt, isEnded, conditionHolds, begun, firstPassing, stepFrom, stepped, elapsed, currentInstances, targetInstances, instancesIn, synchronized, currentPose, targetPose, poseIn, jointPose}
+use Rattle.model.specs.Tree.{statePose}
+use Rattle.model.specs.Skeleton.{parentMatrix, jointMatrix, jointMatrices, pageMatrix}
+use Rattle.model.specs.Run.{FrameKind, ordinary, page, shown, framePlayer, frameMatrices, Call, callVerdict, changed, after, chosenFloats, observation, runFrom}
+use Rattle.model.specs.Unseen.{Reachable, initial, target, Read, byCondition}
+use Rattle.model.specs.Laws.Passed.{parent-earlier, reachable-below}
+use Rattle.model.specs.Laws.Table.{table-at}
+use Rattle.model.specs.Table.{tableTo}
+use Rattle.noninterference.specs.Alike.{Closed, AlikeNumbers, AlikeCall, updates, speeds, sets, frames, AlikeCalls, none, next}
+use Rattle.noninterference.specs.Laws.Lists.{cond-both, cond-same, cond-has, SameAt, same-refl, same-set, map-same}
+use Rattle.noninterference.specs.Laws.Numbers.{value-same, transition-duration-same}
+use Rattle.noninterference.specs.Laws.Trees.{SameInstances, synchronized-same, pose-same}
+
+abbrev pub TargetReachable : List ℕ → Transition → Type 0
+TargetReachable plan Idle = Unit {0}
+TargetReachable plan (Running start goal duration) = Reachable plan goal
+
+-- the invariant
+pub record Together (plan : List ℕ) (p q : Player) : Type 0 where
+  pub clock : p .clock ≡ q .clock
+  pub speed : p .speed ≡ q .speed
+  pub state : p .state ≡ q .state
+  pub transition : p .transition ≡ q .transition
+  pub reachable : Reachable plan (p .state)
+  pub target : TargetReachable plan (p .transition)
+  pub parameters : SameAt nan (Read plan) (p .parameters) (q .parameters)
+  pub instances : SameInstances plan (p .instances) (q .instances)
+
+-- ---- skeleton: the chosen joints' matrices come from the chosen joints' poses
+
+module _ (plan chosen : List ℕ) (k : ℕ) (ok : check plan k ≡ accepted) (closed : Closed plan chosen) (f g : ℕ → Pose) (same : (j : ℕ) → List·Memᴰ j chosen → f j ≡ g j) where
+  -- joint j's, for each j below n
+  matrix-same : (n j : ℕ) → j < n → List·Memᴰ j chosen → jointMatrix plan f (tableTo (jointMatrix plan f) j) j ≡ jointMatrix plan g (tableTo (jointMatrix plan g) j) j
+  unfolding jointMatrix parentMatrix
+  matrix-same zero j h m = absurd (omega arith)
+  matrix-same (suc n) j h m =
+      rw (same j m)
+      (ap (λ (x : Matrix4). product x (toMatrix (g j)))
+      (cond-same (isRoot plan j) (λ e. refl)
+      (λ e. let earlier : parent plan j < j = parent-earlier plan k ok j (closed .are-joints j m) e in
+      table-at (jointMatrix plan f) j identityMatrix (parent plan j) earlier
+      ∙ matrix-same n (parent plan j) (omega arith) (closed .parents j m e)
+      ∙ sym (table-at (jointMatrix plan g) j identityMatrix (parent plan j) earlier))))
+
+  pub matrices-same : (n : ℕ) (d : Matrix4) (j : ℕ) → j < n → List·Memᴰ j chosen → getD (jointMatrices plan f n) j d ≡ getD (jointMatrices plan g n) j d
+  unfolding jointMatrices
+  matrices-same n d j h m = table-at (jointMatrix plan f) n d j h ∙ matrix-same n j h m ∙ sym (table-at (jointMatrix plan g) n d j h)
+
+-- what a kind of frame shows of equal matrices is equal
+shown-same : (kind : FrameKind) (ms ns : List Matrix4) (j : ℕ) → getD ms j identityMatrix ≡ getD ns j identityMatrix → getD (shown kind ms) j identityMatrix ≡ getD (shown kind ns) j identityMatrix
+unfolding shown pageMatrix identityMatrix
+shown-same ordinary ms ns j e = e
+shown-same page ms ns j e = paged ms ∙ ap pageMatrix e ∙ sym (paged ns)
+  where
+    paged : (l : List Matrix4) → getD (shown page l) j identityMatrix ≡ pageMatrix (getD l j identityMatrix)
+    paged l = List·getD-map pageMatrix l j identityMatrix
+
+-- ---- controller
+
+module _ (plan chosen : List ℕ) (a b : List Float) (ok : check plan (length a) ≡ accepted) (closed : Closed plan chosen) (alike : AlikeNumbers plan chosen a b) where
+  below : {s : ℕ} → Reachable plan s → s < stateCount plan
+  below r = reachable-below plan (length a) ok r
+
+  -- ---- step 1
+
+  first-same : {s : ℕ} {l m : List Float} (now : Float) → Reachable plan s → SameAt nan (Read plan) l m
+      → (n t : ℕ) → t + n ≤ transitionCount plan s → firstPassing plan a l now s t n ≡ firstPassing plan b m now s t n
+  unfolding firstPassing
+  first-same now r ps zero t h = refl
+  first-same now r ps (suc n) t h =
+      rw (ps .at _ (byCondition r t (omega arith)), value-same plan chosen a b ok closed alike r t (omega arith), transition-duration-same plan chosen a b ok closed alike r t (omega arith), first-same now r ps n (suc t) (omega arith))
+
+  first-reachable : {s : ℕ} (l : List Float) (now : Float) → Reachable plan s → (n t : ℕ) → t + n ≤ transitionCount plan s → TargetReachable plan (firstPassing plan a l now s t n)
+  unfolding firstPassing
+  first-reachable l now r zero t h = tt
+  first-reachable {s} l now r (suc n) t h =
+      cond-has (TargetReachable plan) (conditionHolds plan a l s t) {x = begun plan a now s t} {y = firstPassing plan a l now s (suc t) n} (target r t (omega arith)) (first-reachable l now r n (suc t) (omega arith))
+
+  module _ (p q : Player) (h : Together plan p q) (now : Float) where
+    step-together : (t : Transition) → TargetReachable plan t → Together plan (stepFrom plan a now p t) (stepFrom plan b now q t)
+    unfolding stepFrom
+    step-together Idle r =
+        record {
+          clock = h .clock;
+          speed = h .speed;
+          state = h .state;
+          transition =
+              first-same now (h .reachable) (h .parameters) (transitionCount plan (p .state)) 0 (omega arith)
+              ∙ ap (λ (s : ℕ). firstPassing plan b (q .parameters) now s 0 (transitionCount plan s)) (h .state);
+          reachable = h .reachable;
+          target = first-reachable (p .parameters) now (h .reachable) (transitionCount plan (p .state)) 0 (omega arith);
+          parameters = h .parameters;
+          instances = h .instances;
+        }
+    step-together (Running start goal duration) r =
+        cond-both (Together plan) (isEnded now start duration)
+        (λ e. record { clock = h .clock; speed = h .speed; state = refl; transition = refl; reachable = r; target = tt; parameters = h .parameters; instances = h .instances })
+        (λ e. h)
+
+    pub stepped-together : Together plan (stepped plan a now p) (stepped plan b now q)
+    stepped-together = subst (λ (t : Transition). Together plan (stepped plan a now p) (stepFrom plan b now q t)) (h .transition) (step-together (p .transition) (h .target))
+
+  -- ---- step 2
+
+  module _ (time : Float) (p q : Player) (h : Together plan p q) where
+    current-same : SameInstances plan (currentInstances plan a time p) (currentInstances plan b time q)
+    unfolding currentInstances
+    current-same = rw (← h .state) (synchronized-same plan chosen a b ok closed alike (h .parameters) time (p .state) (below (h .reachable)) (h .instances))
+
+    target-same : (goal : ℕ) → Reachable plan goal → SameInstances plan (targetInstances plan a time p goal) (targetInstances plan b time q goal)
+    unfolding targetInstances
+    target-same goal r = synchronized-same plan chosen a b ok closed alike (h .parameters) time goal (below r) current-same
+
+    instances-same : (t : Transition) → TargetReachable plan t → SameInstances plan (instancesIn plan a time p t) (instancesIn plan b time q t)
+    unfolding instancesIn
+    instances-same Idle r = current-same
+    instances-same (Running start goal duration) r = target-same goal r
+
+    pub synchronized-together : Together plan (synchronized plan a time p) (synchronized plan b time q)
+    synchronized-together =
+        record {
+          clock = h .clock;
+          speed = h .speed;
+          state = h .state;
+          transition = h .transition;
+          reachable = h .reachable;
+          target = h .target;
+          parameters = h .parameters;
+          instances = subst (λ (t : Transition). SameInstances plan (instancesIn plan a time p (p .transition)) (instancesIn plan b time q t)) (h .transition) (instances-same (p .transition) (h .target));
+        }
+
+    module _ (now : Float) (j : ℕ) (m : List·Memᴰ j chosen) where
+      current-pose : currentPose plan a time p j ≡ currentPose plan b time q j
+      unfolding currentPose
+      current-pose =
+          pose-same plan chosen a b ok closed alike (h .parameters) time (p .state) (h .reachable) current-same j m
+          ∙ ap (λ (s : ℕ). statePose plan b (q .parameters) time s (currentInstances plan b time q) j) (h .state)
+
+      target-pose : (goal : ℕ) → Reachable plan goal → targetPose plan a time p goal j ≡ targetPose plan b time q goal j
+      unfolding targetPose
+      target-pose goal r = pose-same plan chosen a b ok closed alike (h .parameters) time goal r (target-same goal r) j m
+
+      pose-in : (t : Transition) → TargetReachable plan t → poseIn plan a time p now j t ≡ poseIn plan b time q now j t
+      unfolding poseIn
+      pose-in Idle r = current-pose
+      pose-in (Running start goal duration) r = rw (current-pose, target-pose goal r)
+
+      pub joint-same : jointPose plan a time p now j ≡ jointPose plan b time q now j
+      joint-same = pose-in (p .transition) (h .target) ∙ ap (poseIn plan b time q now j) (h .transition)
+
+  -- ---- start
+
+  states-synchronized : (n : ℕ) → n ≤ stateCount plan → (is : List Float) → SameInstances plan (synchronizeStates plan a n is) (synchronizeStates plan b n is)
+  unfolding synchronizeStates
+  states-synchronized zero h is = same-refl nan _ is
+  states-synchronized (suc s) h is =
+      synchronized-same plan chosen a b ok closed alike (same-refl nan (Read plan) (replicate maxParameters 0f)) 0f s (omega arith) (states-synchronized s (omega arith) is)
+
+  pub fresh-together : Together plan (fresh plan a) (fresh plan b)
+  unfolding fresh blank
+  fresh-together =
+      record {
+        clock = refl;
+        speed = refl;
+        state = refl;
+        transition = refl;
+        reachable = initial;
+        target = tt;
+        parameters = same-refl nan (Read plan) _;
+        instances = states-synchronized (stateCount plan) (omega arith) _;
+      }
+
+  -- ---- each call
+
+  module _ (p q : Player) (h : Together plan p q) where
+    now-same : (ext : Float) → nowAt p ext ≡ nowAt q ext
+    unfolding nowAt
+    now-same ext = rw (h .clock)
+
+    elapsed-same : (ext : Float) → elapsed p ext ≡ elapsed q ext
+    unfolding elapsed
+    elapsed-same ext = rw (h .clock, h .speed)
+
+    frame-together : (ext : Float) → Together plan (framePlayer plan a p ext) (framePlayer plan b q ext)
+    unfolding framePlayer
+    frame-together ext = rw (now-same ext, elapsed-same ext) (synchronized-together (elapsed q ext) _ _ (stepped-together p q h (nowAt q ext)))
+
+    changed-together : {c d : Call} → AlikeCall plan c d → Together plan (changed plan a p c) (changed plan b q d)
+    unfolding changed
+    changed-together (updates delta) =
+        record { clock = rw (h .clock, h .speed); speed = h .speed; state = h .state; transition = h .transition; reachable = h .reachable; target = h .target; parameters = h .parameters; instances = h .instances }
+    changed-together (speeds v) =
+        record { clock = h .clock; speed = refl; state = h .state; transition = h .transition; reachable = h .reachable; target = h .target; parameters = h .parameters; instances = h .instances }
+    changed-together (sets n v w e) =
+        record { clock = h .clock; speed = h .speed; state = h .state; transition = h .transition; reachable = h .reachable; target = h .target; parameters = same-set (h .parameters) n v w (λ r. e (λ u. u r)); instances = h .instances }
+    changed-together (frames kind ext len) = frame-together ext
+
+    verdict-same : {c d : Call} → AlikeCall plan c d → callVerdict plan a p c ≡ callVerdict plan b q d
+    unfolding callVerdict frameVerdict
+    verdict-same (updates delta) = refl
+    verdict-same (speeds v) = refl
+    verdict-same (sets n v w e) = refl
+    verdict-same (frames kind ext len) = rw (alike .lengths, h .state, h .transition)
+
+    unless-together : (x : Verdict) (u v : Player) → Together plan u v → Together plan (unlessRefused x u p) (unlessRefused x v q)
+    unfolding unlessRefused
+    unless-together accepted u v k = k
+    unless-together (refused n at r) u v k = h
+
+    pub after-together : {c d : Call} → AlikeCall plan c d → Together plan (after plan a p c) (after plan b q d)
+    unfolding after
+    after-together {c} {d} k = rw (verdict-same k) (unless-together (callVerdict plan b q d) (changed plan a p c) (changed plan b q d) (changed-together k))
+
+    frame-matrix : (kind : FrameKind) (ext : Float) (j : ℕ) → List·Memᴰ j chosen → getD (frameMatrices plan a p ext kind) j identityMatrix ≡ getD (frameMatrices plan b q ext kind) j identityMatrix
+    unfolding frameMatrices
+    frame-matrix kind ext j m =
+        shown-same kind _ _ j
+        (rw (now-same ext, elapsed-same ext)
+        (matrices-same plan chosen (length a) ok closed _ _ (joint-same (elapsed q ext) _ _ (stepped-together p q h (nowAt q ext)) (nowAt q ext)) (jointCount plan) identityMatrix j (closed .are-joints j m) m))
+
+    floats-same : {c d : Call} → AlikeCall plan c d → chosenFloats plan a chosen p c ≡ chosenFloats plan b chosen q d
+    unfolding chosenFloats
+    floats-same (updates delta) = refl
+    floats-same (speeds v) = refl
+    floats-same (sets n v w e) = refl
+    floats-same (frames kind ext len) = map-same _ _ chosen (λ j m. ap floats (frame-matrix kind ext j m))
+
+    observation-same : {c d : Call} → AlikeCall plan c d
+        → observation (callVerdict plan a p c) (after plan a p c) (chosenFloats plan a chosen p c) ≡ observation (callVerdict plan b q d) (after plan b q d) (chosenFloats plan b chosen q d)
+    unfolding observation
+    observation-same k =
+        let e : Together plan _ _ = after-together k in
+        rw (verdict-same k, floats-same k, e .clock, e .speed, e .state, e .transition)
+
+  pub run-same : (p q : Player) → Together plan p q → {cs ds : List Call} → AlikeCalls plan cs ds → runFrom plan a chosen p cs ≡ runFrom plan b chosen q ds
+  unfolding runFrom
+  run-same p q h none = refl
+  run-same p q h (next k ks) = rw (observation-same p q h k, run-same _ _ (after-together p q h k) ks)

@@ -1,0 +1,102 @@
+-- Demand 3 says something: every list of calls has a session from every accepted start, figures that differ at an unseen place are alike, and so are
+-- calls that differ in a value set on a parameter that is not read.
+use Prim.Native.Nat.{ℕ, _<_}
+use native.Mathlib.Omega.{arith}
+use native.Mathlib.Decide.{ℕ-discrete}
+use mathlib.Core.Path.{_≡_, refl, sym, ap, ap₂, _∙_, subst}
+use mathlib.Core.Logic.{inl}
+use mathlib.Core.Bool.{true, false}
+use mathlib.Core.List.{List, [], _∷_, List·Memᴰ, List·Memᴰ·head, List·Memᴰ·tail}
+use lib.ListN.{length, getD, set, replicate, length-set, length-replicate}
+use lib.Seq.{getD-set-other}
+use lib.Ieee.{Float, nan}
+use Rattle.model.specs.declared.Player.{Player}
+use Rattle.model.specs.declared.Outcome.{Outcome}
+use Rattle.model.specs.Numbers.{0f}
+use Rattle.model.specs.Answers.{accepted, unlessRefused}
+use Rattle.model.specs.Plan.{PoseFloat}
+use Rattle.model.specs.Controller.{withSpeed, updated, parameterSet, setVerdict, frameVerdict}
+use Rattle.model.specs.Skeleton.{written}
+use Rattle.model.specs.Run.{startVerdict, startPlayer, FrameKind, framePlayer, frameMatrices, Call, Update, Speed, Set, Frame}
+use Rattle.model.specs.Unseen.{Read}
+use Rattle.model.specs.Laws.Opened.{check-opened}
+use Rattle.noninterference.specs.Alike.{Closed, UnseenAt, AlikeNumbers, AlikeCall, sets}
+use Rattle.noninterference.specs.Laws.Answers.{Answerable, require-answerable, check-answerable, frame-answerable}
+use Rattle.noninterference.specs.Trace.{Event, Trace, end, update, setSpeed, setParameter, frame, Session, calls}
+
+-- ---- every list of calls has a trace from every player
+
+pub record Performed (plan : List ℕ) (numbers : List Float) (p : Player) (cs : List Call) : Type 0 where
+  pub events : List Event
+  pub trace : Trace plan numbers p events
+  pub called : calls events ≡ cs
+
+module _ (plan : List ℕ) (numbers : List Float) where
+  pub perform : (p : Player) (cs : List Call) → Performed plan numbers p cs
+  perform p [] = record { events = []; trace = end; called = refl }
+  perform p (Update delta ∷ cs) =
+      let f : Performed plan numbers (updated p delta) cs = perform (updated p delta) cs in
+      record { events = _; trace = update delta (record { player = refl }) (f .trace); called = ap (λ (l : List Call). Update delta ∷ l) (f .called) }
+  perform p (Speed v ∷ cs) =
+      let f : Performed plan numbers (withSpeed p v) cs = perform (withSpeed p v) cs in
+      record { events = _; trace = setSpeed v (record { player = refl }) (f .trace); called = ap (λ (l : List Call). Speed v ∷ l) (f .called) }
+  perform p (Set n v ∷ cs) =
+      let x : Answerable (setVerdict n) = require-answerable _ _ _ in
+      let r : Outcome = record { answer = x .answer; player = unlessRefused (setVerdict n) (parameterSet p n v) p } in
+      let f : Performed plan numbers (r .player) cs = perform (r .player) cs in
+      record { events = _; trace = setParameter {r = r} n v (record { answer = x .is; player = refl }) (f .trace); called = ap (λ (l : List Call). Set n v ∷ l) (f .called) }
+  perform p (Frame kind ext len ∷ cs) =
+      let old : List Float = replicate len 0f in
+      let v = frameVerdict plan numbers p (length old) in
+      let x : Answerable v = frame-answerable plan numbers p (length old) in
+      let r : Outcome = record { answer = x .answer; player = unlessRefused v (framePlayer plan numbers p ext) p } in
+      let f : Performed plan numbers (r .player) cs = perform (r .player) cs in
+      record {
+        events = _;
+        trace = frame {r = r} kind ext old (unlessRefused v (written plan (frameMatrices plan numbers p ext kind) old) old) (record { answer = x .is; player = refl; output = refl }) (f .trace);
+        called = ap₂ (λ (n : ℕ) (l : List Call). Frame kind ext n ∷ l) (length-replicate len 0f) (f .called);
+      }
+
+  -- and a session from every accepted start
+  pub every-session : startVerdict plan numbers ≡ accepted → (cs : List Call) → Session plan numbers (perform (startPlayer plan numbers) cs .events)
+  unfolding startVerdict
+  every-session ok cs =
+      let x : Answerable (startVerdict plan numbers) = check-answerable plan (length numbers) in
+      record {
+        start = record { answer = x .answer; player = startPlayer plan numbers };
+        started = record { answer = x .is; player = refl };
+        is-accepted = x .is ∙ ok;
+        trace = perform (startPlayer plan numbers) cs .trace;
+      }
+
+-- ---- what is unseen makes no difference to being alike
+
+-- any number put at an unseen place
+pub unseen-alike : (plan chosen : List ℕ) (a : List Float) (k : ℕ) (x : Float) → UnseenAt plan chosen k → AlikeNumbers plan chosen a (set a k x)
+unseen-alike plan chosen a k x u = record { lengths = sym (length-set a k x); places = λ i h seen. other i seen (ℕ-discrete i k) }
+  where
+    other : (i : ℕ) → ¬ UnseenAt plan chosen i → Dec (i ≡ k) → getD a i nan ≡ getD (set a k x) i nan
+    other i seen (yes e) = absurd (seen (subst (UnseenAt plan chosen) (sym e) u))
+    other i seen (no e) = sym (getD-set-other a k i x nan e)
+
+-- any value set on a parameter that is not read
+pub unread-alike : (plan : List ℕ) (n : ℕ) (v w : Float) → ¬ Read plan n → AlikeCall plan (Set n v) (Set n w)
+unread-alike plan n v w unread = sets n v w (λ read. absurd (read unread))
+
+-- and there are unseen places: of two roots with joint 0 chosen, joint 1's translation x, at place 9
+unfoldable pub twoRoots : List ℕ
+twoRoots = 2 ∷ 1 ∷ 0 ∷ 1 ∷ 0 ∷ 255 ∷ 255 ∷ 1 ∷ 1 ∷ 0 ∷ 0 ∷ 0 ∷ 0 ∷ 0 ∷ []
+
+only-0 : (j : ℕ) → List·Memᴰ j (0 ∷ []) → j ≡ 0
+only-0 j (List·Memᴰ·head e) = e
+
+pub two-roots-closed : Closed twoRoots (0 ∷ [])
+unfolding check-opened twoRoots
+two-roots-closed = record { are-joints = λ j m. rw (only-0 j m) (omega arith); parents = λ j m h. absurd (root (rw (only-0 j m) at h)) }
+  where
+    root : true ≡ false → ⊥
+    root e = let z : _≡_ {A = ℕ} 0 1 = cc in omega arith
+
+pub two-roots-unseen : UnseenAt twoRoots (0 ∷ []) 9
+unfolding check-opened twoRoots
+two-roots-unseen = record { name = PoseFloat 0 0 1 0; in-plan = (omega arith, omega arith, omega arith, omega arith); here = refl; unseen = inl (λ m. absurd (omega (arith, only-0 1 m))) }
