@@ -4,12 +4,12 @@ use mathlib.Core.Bool.{Bool, cond}
 use Rattle.model.specs.declared.Answer.{Answer}
 use Rattle.model.specs.declared.Answer.the-variants.{Accepted, Refused}
 
--- an answer is the acceptance, or the refusal's number, place and rest
+-- 'answer'
 pub data Verdict : Type 0 where
   accepted : Verdict
   refused : (number place rest : ℕ) → Verdict
 
--- document 01's number and values for each case of the enum that start, set, frame and page frame answer: the rest of a refused answer is 0
+-- what the cases of the program's enum stand for in document 01. Start, set and frames carry nothing beside, so their rest is 0
 unfoldable pub values : Answer → Verdict
 values Accepted = accepted
 values (Refused number place) = refused number place 0

@@ -95,7 +95,7 @@ pub joints-65 : (n : ℕ) → check (jointsPlan 65) n ≡ refused 2 0 0
 unfolding check-opened jointsPlan
 joints-65 n = refl
 
--- ---- unmarked: duration 0 gives a NaN factor on its first frame, whatever now is
+-- ---- unmarked: a transition of duration 0 divides 0 by 0 in the frame that starts it, whenever that is
 
 zero-by-zero : (c : ℕ) (v : Float) → 0 < c → HasValue v false 0 c → div binary64 v 0f ≡ nan
 unfolding div ofBits
@@ -148,7 +148,7 @@ pub no-scale : (p : Pose) (x : Float) → toMatrix (record { translation = p .tr
 unfolding toMatrix
 no-scale p x = refl
 
--- a second step in the frame that ends a transition: such a frame leaves the player idle, whatever conditions hold
+-- a second step: the frame that finds a transition ended leaves the player idle, whatever conditions hold
 pub one-step : (plan : List ℕ) (numbers : List Float) (now : Float) (p : Player) (start : Float) (target : ℕ) (duration : Float)
     → isEnded now start duration ≡ true
     → stepFrom plan numbers now p (Running start target duration) ≡ withTransition (withState p target) Idle

@@ -1,4 +1,4 @@
--- Document 01, "Start": the plan is read front to back and the first missing or wrong word decides. Definitions only.
+-- Document 01, "Start": refusals 1 to 7, as a row of checks in the order of the words. Definitions only.
 use Prim.Native.Nat.{ℕ, zero, suc, _+_, _-_}
 use mathlib.Core.Bool.{Bool, false, cond, not, _&&_, _||_}
 use mathlib.Core.List.{List}
@@ -7,34 +7,33 @@ use lib.Dec.{leb, ltb, eqb}
 use Rattle.model.specs.Answers.{Verdict, _then_, each, require}
 use Rattle.model.specs.Plan.{maxJoints, maxClips, maxParameters, maxStates, maxSamples, maxNodes, maxTransitions, maxClipNodes, jointCount, clipCount, parameterCount, stateCount, initialState, parentAt, parent, isRoot, sampleCountAt, sampleCount, stateAt, nodeCount, nodeAt, kind, isClip, inputA, inputB, nodeParameter, transitionCountAt, transitionCount, transitionAt, conditionParameter, operator, targetState, planEnd, clipNode, numbersLength}
 
--- the word at a place is there (else 1, with the plan's length) and passes its test (else the number given, with its place)
+-- refusal 1 where the plan has no such word, else the number given where the word fails its test
 unfoldable pub wordIs : List ℕ → ℕ → ℕ → Bool → Verdict
 wordIs plan number place ok = require (ltb place (length plan)) 1 (length plan) then require ok number place
 
 unfoldable pub within : ℕ → ℕ → ℕ → Bool
 within low x high = leb low x && leb x high
 
--- 2: a count or the initial state outside its range
+-- refusal 2 in the header
 unfoldable pub checkHeader : List ℕ → Verdict
 checkHeader plan =
     wordIs plan 2 0 (within 1 (jointCount plan) maxJoints) then wordIs plan 2 1 (within 1 (clipCount plan) maxClips) then
     wordIs plan 2 2 (leb (parameterCount plan) maxParameters) then wordIs plan 2 3 (within 1 (stateCount plan) maxStates) then
     wordIs plan 2 4 (ltb (initialState plan) (stateCount plan))
 
--- 3: parent
+-- refusal 3
 unfoldable pub checkParent : List ℕ → ℕ → Verdict
 checkParent plan j = wordIs plan 3 (parentAt j) (isRoot plan j || ltb (parent plan j) j)
 
 unfoldable pub checkSampleCount : List ℕ → ℕ → Verdict
 checkSampleCount plan c = wordIs plan 2 (sampleCountAt plan c) (within 1 (sampleCount plan c) maxSamples)
 
--- node k of state s is an input of one of its first i nodes
+-- whether one of the first i nodes has node k for an input
 unfoldable pub used : List ℕ → ℕ → ℕ → ℕ → Bool
 used plan s zero k = false
 used plan s (suc i) k = used plan s i k || (not (isClip plan s i) && (eqb (inputA plan s i) k || eqb (inputB plan s i) k))
 
--- 4: node word, in the order kind, a, b, p; a 65th clip node is 2 at its kind.
--- A clip node names a clip; another node two earlier nodes that are no inputs yet, and a parameter
+-- refusal 4 for a node's words, and 2 for one clip node too many, which is known as soon as its kind is
 unfoldable pub checkNode : List ℕ → ℕ → ℕ → Verdict
 checkNode plan s i =
     let at = nodeAt plan s i in
@@ -47,7 +46,7 @@ checkNode plan s i =
     wordIs plan 4 (at + 2) (cond (isClip plan s i) (eqb b 0) (ltb b i && not (used plan s i b) && not (eqb a b))) then
     wordIs plan 4 (at + 3) (cond (isClip plan s i) (eqb p 0) (ltb p (parameterCount plan)))
 
--- 5: transition word
+-- refusal 5
 unfoldable pub checkTransition : List ℕ → ℕ → ℕ → Verdict
 checkTransition plan s t =
     let at = transitionAt plan s t in
@@ -55,7 +54,7 @@ checkTransition plan s t =
     wordIs plan 5 (at + 1) (leb (operator plan s t) 5) then
     wordIs plan 5 (at + 2) (ltb (targetState plan s t) (stateCount plan))
 
--- a node left unused is found after the last node, with the place of K
+-- a state: K, its nodes, that no node but the root is left over, T, its transitions
 unfoldable pub checkState : List ℕ → ℕ → Verdict
 checkState plan s =
     wordIs plan 2 (stateAt plan s) (within 1 (nodeCount plan s) maxNodes) then
@@ -64,7 +63,7 @@ checkState plan s =
     wordIs plan 2 (transitionCountAt plan s) (leb (transitionCount plan s) maxTransitions) then
     each (transitionCount plan s) (checkTransition plan s)
 
--- then 6: words left over; then 7: numbers not exactly as long as the plan says
+-- the whole check, with refusals 6 and 7 at its end
 unfoldable pub check : List ℕ → ℕ → Verdict
 check plan numbersGiven =
     checkHeader plan then

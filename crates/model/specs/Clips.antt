@@ -12,14 +12,14 @@ use Rattle.model.specs.Plan.{sampleCount, number, Rate, samplePose}
 
 -- ---- a position
 
--- its floor and its ceiling as indices, each modulo N
+-- 'indices': the samples on either side of it, wrapped round
 unfoldable pub firstIndex : ℕ → Float → ℕ
 firstIndex n position = floorIndex position % n
 
 unfoldable pub secondIndex : ℕ → Float → ℕ
 secondIndex n position = ceilingIndex position % n
 
--- position minus the floor's index, taken before the modulo, as a float
+-- 'factor': how far past its floor, before any wrap round
 unfoldable pub factor : Float → Float
 factor position = position -₃₂ indexFloat (floorIndex position)
 
@@ -28,7 +28,7 @@ factor position = position -₃₂ indexFloat (floorIndex position)
 abbrev pub localTime : ClipInstance → Float → Float
 localTime i time = (time -₃₂ i .start) *₃₂ i .rate +₃₂ i .offset
 
--- a rate unequal to the old one moves the offset; an equal one changes nothing
+-- a new rate goes on from the same local time. Rates are told apart by Rust's `!=`, so a NaN is always new
 abbrev pub setPlaybackRate : ClipInstance → Float → Float → ClipInstance
 setPlaybackRate i time rate =
     cond (ne (i .rate) rate) (record { start = i .start; rate = rate; offset = localTime i time -₃₂ (time -₃₂ i .start) *₃₂ rate }) i
@@ -41,7 +41,7 @@ instanceAt instances n = record { start = getD instances (3 * n) nan; rate = get
 abbrev pub setInstance : List Float → ℕ → ClipInstance → List Float
 setInstance instances n i = set (set (set instances (3 * n) (i .start)) (3 * n + 1) (i .rate)) (3 * n + 2) (i .offset)
 
--- n blank ones: start time 0, rate 1, offset 0
+-- n of the blank player's
 unfoldable pub blankInstances : ℕ → List Float
 blankInstances zero = []
 blankInstances (suc n) = 0f ∷ 1f ∷ 0f ∷ blankInstances n
@@ -52,12 +52,12 @@ module _ (plan : List ℕ) (numbers : List Float) where
   unfoldable pub duration : ℕ → Float
   duration c = indexFloat (sampleCount plan c) /₃₂ number plan numbers (Rate c)
 
-  -- the pose of joint j at a position of clip c
+  -- at a 'position' of clip c, joint j's pose
   unfoldable pub poseAt : ℕ → ℕ → Float → Pose
   poseAt c j position =
       let n = sampleCount plan c in
       lerp (samplePose plan numbers c (firstIndex n position) j) (samplePose plan numbers c (secondIndex n position) j) (factor position)
 
-  -- at a local time: position = local time × rate
+  -- at a 'local time'
   unfoldable pub clipPose : ℕ → ℕ → Float → Pose
   clipPose c j local = poseAt c j (local *₃₂ number plan numbers (Rate c))

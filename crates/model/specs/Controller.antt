@@ -1,4 +1,4 @@
--- Document 01, "Controller (controller.rs)", up to step 2 of a frame. Definitions only.
+-- Document 01, "Controller (controller.rs)", but for step 3. Definitions only.
 use Prim.Native.Nat.{ℕ, zero, suc, _*_}
 use mathlib.Core.Bool.{Bool, true, cond}
 use mathlib.Core.List.{List}
@@ -19,7 +19,7 @@ use Rattle.model.specs.Tree.{parameter, synchronize, statePose}
 
 -- ---- players
 
--- a refused start's player is blank
+-- 'blank'
 unfoldable pub blank : Player
 blank = record { clock = 0f; speed = 1f; state = 0; transition = Idle; parameters = replicate maxParameters 0f; instances = blankInstances maxClipNodes }
 
@@ -44,12 +44,12 @@ withInstances p x = record { clock = p .clock; speed = p .speed; state = p .stat
 
 -- ---- start
 
--- the first n states synchronised at time 0 with all parameters 0
+-- the instances after a start: the first n states, in order, each synchronised once with zeros
 unfoldable pub synchronizeStates : List ℕ → List Float → ℕ → List Float → List Float
 synchronizeStates plan numbers zero instances = instances
 synchronizeStates plan numbers (suc s) instances = synchronize plan numbers (replicate maxParameters 0f) 0f s (synchronizeStates plan numbers s instances)
 
--- a fresh player is the blank one put in the plan's initial state, every state then synchronised
+-- 'fresh player'
 unfoldable pub fresh : List ℕ → List Float → Player
 fresh plan numbers = withInstances (withState blank (initialState plan)) (synchronizeStates plan numbers (stateCount plan) (blank .instances))
 
@@ -61,11 +61,11 @@ updated p delta = withClock p (p .clock +₆₄ delta *₆₄ p .speed)
 abbrev pub parameterSet : Player → ℕ → Float → Player
 parameterSet p n v = withParameters p (set (p .parameters) n v)
 
--- 8: parameter number 32 or above
+-- refusal 8
 abbrev pub setVerdict : ℕ → Verdict
 setVerdict n = require (ltb n maxParameters) 8 0
 
--- ---- a frame's refusals: 1 to 7 as at start; 9: current state or running target not below S; 10: output shorter than 16 × J
+-- ---- a frame's refusals: the start's, then 9 for a state that the plan does not have, then 10 for the output's length
 
 unfoldable pub isTargetBelow : ℕ → Transition → Bool
 isTargetBelow n Idle = true
@@ -83,11 +83,11 @@ frameVerdict plan numbers p outputLength =
 unfoldable pub nowAt : Player → Float → Float
 nowAt p ext = p .clock +₆₄ ext
 
--- now is at least start + duration, widened and summed in 64 bits
+-- the end of a transition. The duration's widening is no operation, and the sum is of 64 bits
 unfoldable pub isEnded : Float → Float → Float → Bool
 isEnded now start duration = le (start +₆₄ duration) now
 
--- operators 0..5: less, at most, greater, at least, equal, unequal
+-- 'operator'
 unfoldable pub holds : ℕ → Float → Float → Bool
 holds op p v =
     cond (eqb op 0) (lt p v)
@@ -97,19 +97,19 @@ holds op p v =
     (cond (eqb op 4) (eq p v) (ne p v)))))
 
 module _ (plan : List ℕ) (numbers : List Float) where
-  -- the condition of transition t of state s, and that transition begun
+  -- transition t of state s: its 'condition', and what it is once it started
   abbrev pub conditionHolds : List Float → ℕ → ℕ → Bool
   conditionHolds parameters s t = holds (operator plan s t) (parameter parameters (conditionParameter plan s t)) (number plan numbers (Value s t))
 
   abbrev pub begun : Float → ℕ → ℕ → Transition
   begun now s t = Running now (targetState plan s t) (number plan numbers (Duration s t))
 
-  -- the first of the n transitions from t on whose condition holds starts at now
+  -- tries transition t and those after it, n in all, in the plan's order
   unfoldable pub firstPassing : List Float → Float → ℕ → ℕ → ℕ → Transition
   firstPassing parameters now s t zero = Idle
   firstPassing parameters now s t (suc n) = cond (conditionHolds parameters s t) (begun now s t) (firstPassing parameters now s (suc t) n)
 
-  -- in a transition: if it has ended, the target becomes current and the player idle. Idle: the first listed transition is tried. One of these a frame
+  -- step 1, by the transition that the player had before it: either looks for an end or for a start, never both
   unfoldable pub stepFrom : Float → Player → Transition → Player
   stepFrom now p Idle = withTransition p (firstPassing (p .parameters) now (p .state) 0 (transitionCount plan (p .state)))
   stepFrom now p (Running start target duration) = cond (isEnded now start duration) (withTransition (withState p target) Idle) p
@@ -122,12 +122,12 @@ module _ (plan : List ℕ) (numbers : List Float) where
 unfoldable pub elapsed : Player → Float → Float
 elapsed p ext = narrow (p .clock +₆₄ ext *₆₄ p .speed)
 
--- the duration widened first
+-- how far a transition has come, as the factor of its lerp
 unfoldable pub transitionFactor : Float → Float → Float → Float
 transitionFactor now start duration = narrow ((now -₆₄ start) /₆₄ duration)
 
 module _ (plan : List ℕ) (numbers : List Float) (time : Float) (p : Player) where
-  -- the current state is synchronised; in a transition, then the target too
+  -- the instances after synchronising the current state, and after the target on top of that
   unfoldable pub currentInstances : List Float
   currentInstances = synchronize plan numbers (p .parameters) time (p .state) (p .instances)
 
@@ -141,7 +141,7 @@ module _ (plan : List ℕ) (numbers : List Float) (time : Float) (p : Player) wh
   abbrev pub synchronized : Player
   synchronized = withInstances p (instancesIn (p .transition))
 
-  -- each state's pose of joint j, and in a transition the lerp from the current state's to the target's
+  -- the poses of joint j: of either state, and blended where a transition is under way
   unfoldable pub currentPose : ℕ → Pose
   currentPose j = statePose plan numbers (p .parameters) time (p .state) currentInstances j
 

@@ -6,7 +6,7 @@ use lib.IntN.{pos}
 use lib.Dec.{leb, eqb}
 use lib.Ieee.{Float, nan, inf, fin, up, down, size, odd, binary32, binary64, add, sub, mul, div, round, ofInt, toUnsigned, toBits, ofBits}
 
--- ---- the operations at each width, each rounded once; sums run left to right
+-- ---- the operations at each width. Each rounds its exact result once; a chain associates to the left
 infixl 65 _+₃₂_ _-₃₂_ _+₆₄_ _-₆₄_
 infixl 70 _*₃₂_ _/₃₂_ _*₆₄_ _/₆₄_
 abbrev pub _+₃₂_ : Float → Float → Float
@@ -48,14 +48,14 @@ threeHalves = ofBits binary32 0x3fc0_0000
 
 -- ---- conversions
 
--- Widening is exact, and both widths share their values: it is no operation here.
--- Narrowing rounds the exact value once, to nearest, ties to even, with subnormals and infinities.
+-- 'widening': both widths share their values, so it is no operation here.
+-- 'narrowing': the exact value, rounded once by lib.Ieee's `round`
 unfoldable pub narrow : Float → Float
 narrow nan = nan
 narrow (inf s) = inf s
 narrow (fin s m e) = round binary32 s (m * up e) (down e)
 
--- the whole number n with the sign s, exactly
+-- a whole number n, negative where s is true, with no rounding
 unfoldable pub whole : Bool → ℕ → Float
 whole s n = odd (size n) s n 0 0
 
@@ -63,7 +63,7 @@ whole s n = odd (size n) s n 0 0
 abbrev pub carry : ℕ → ℕ → ℕ
 carry a b = cond (eqb (a % b) 0) 0 1
 
--- floor and ceiling: exact
+-- 'floor' and 'ceiling': away from zero only on the side of the sign
 unfoldable pub floor : Float → Float
 floor nan = nan
 floor (inf s) = inf s
@@ -74,7 +74,7 @@ ceiling nan = nan
 ceiling (inf s) = inf s
 ceiling (fin s m e) = whole s (m * up e / down e + cond s 0 (carry (m * up e) (down e)))
 
--- a float becomes an index as Rust's `as usize` on 64 bits does
+-- 'index': Rust's `as usize`. lib.Ieee cuts NaN and negatives to 0 and what is too large to 2^64 − 1
 abbrev pub index : Float → ℕ
 index x = toUnsigned 64 x
 
@@ -84,17 +84,17 @@ floorIndex x = index (floor x)
 unfoldable pub ceilingIndex : Float → ℕ
 ceilingIndex x = index (ceiling x)
 
--- an index as a float, rounded once: 2^64 − 1 counts as 2^64
+-- Rust's `as f32` of an index
 unfoldable pub indexFloat : ℕ → Float
 indexFloat n = ofInt binary32 (pos n)
 
 -- ---- inv_sqrt
 
--- a 32-bit pattern as a signed number, shifted right by one with sign: the top bit is copied
+-- Rust's `i >> 1` of a signed number, on its 32-bit pattern: the top bit stays and is copied
 abbrev pub shiftedBits : ℕ → ℕ
 shiftedBits bits = bits / 2 + cond (leb (2 ^ 31) bits) (2 ^ 31) 0
 
--- the first guess: that, subtracted from hexadecimal 5f3759df. This subtraction wraps
+-- 'first guess': the pattern of `0x5f3759df - (i >> 1)` at 32 bits, wrapping as a release build does
 unfoldable pub firstGuess : ℕ → ℕ
 firstGuess bits = (0x5f37_59df + 2 ^ 32 - shiftedBits bits) % 2 ^ 32
 

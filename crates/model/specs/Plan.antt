@@ -1,4 +1,4 @@
--- Document 01, "Plan and numbers (anew)": the limits, and where each word and each number stands. Definitions only.
+-- Document 01, "Plan and numbers (anew)": limits, and the places of words and numbers. Definitions only.
 -- Nothing outside this file adds offsets to the place of a word or a number.
 use Prim.Native.Nat.{ℕ, zero, suc, _+_, _*_}
 use mathlib.Core.Bool.{Bool, cond}
@@ -143,14 +143,14 @@ unfoldable pub total : (ℕ → ℕ) → ℕ → ℕ
 total f zero = 0
 total f (suc n) = total f n + f n
 
--- how many of the first i nodes of state s are clips
+-- clip nodes of state s before its node i
 unfoldable pub clipNodesAmong : List ℕ → ℕ → ℕ → ℕ
 clipNodesAmong plan s i = total (λ k. cond (isClip plan s k) 1 0) i
 
 unfoldable pub clipNodesBefore : List ℕ → ℕ → ℕ
 clipNodesBefore plan s = total (λ u. clipNodesAmong plan u (nodeCount plan u)) s
 
--- the number of clip node i of state s, counted from 0 over all states
+-- the number, over the whole plan, of the clip node that is node i of state s
 unfoldable pub clipNode : List ℕ → ℕ → ℕ → ℕ
 clipNode plan s i = clipNodesBefore plan s + clipNodesAmong plan s i
 
@@ -162,7 +162,7 @@ samplesBefore plan c = total (sampleCount plan) c
 
 -- ---- the numbers
 
--- What a number is: a clip's rate; a transition's value or duration, by state and transition; one of the eight floats of a pose, by clip, sample, joint and float
+-- A number's name. `Rate c`; `Value` and `Duration` by state and transition; `PoseFloat` by clip, sample, joint and one of eight
 pub data NumberName : Type 0 where
   Rate : ℕ → NumberName
   Value Duration : ℕ → ℕ → NumberName

@@ -9,7 +9,7 @@ use Rattle.model.specs.Rotations.{quaternion, lerpQuaternion, row, produ
 abbrev pub vector : Float → Float → Float → Vector3
 vector x y z = record { x = x; y = y; z = z }
 
--- the identity pose: translation 0, scale 1, rotation w 1, rest 0
+-- 'identity pose': moves nothing, scale one, the unit quaternion
 unfoldable pub identityPose : Pose
 identityPose = record { translation = vector 0f 0f 0f; scale = 1f; rotation = quaternion 1f 0f 0f 0f }
 
@@ -20,7 +20,7 @@ lerpFloat a b t = a +₃₂ (b -₃₂ a) *₃₂ t
 abbrev pub lerpVector : Vector3 → Vector3 → Float → Vector3
 lerpVector a b t = vector (lerpFloat (a .x) (b .x) t) (lerpFloat (a .y) (b .y) t) (lerpFloat (a .z) (b .z) t)
 
--- `lerp` treats the three parts separately
+-- 'lerp', part by part
 unfoldable pub lerp : Pose → Pose → Float → Pose
 lerp p q t =
     record {
@@ -29,7 +29,7 @@ lerp p q t =
       rotation = lerpQuaternion (p .rotation) (q .rotation) t;
     }
 
--- the rotation's matrix with the translation in the last column; the scale is left out
+-- to_matrix: column 3 holds the translation, and nothing reads the scale
 unfoldable pub toMatrix : Pose → Matrix4
 toMatrix p =
     let m = quaternionToMatrix (p .rotation) in
@@ -44,6 +44,6 @@ toMatrix p =
 unfoldable pub fromMatrix : Matrix4 → Pose
 fromMatrix m = record { translation = vector (m .r0 .c3) (m .r1 .c3) (m .r2 .c3); scale = 1f; rotation = matrixToQuaternion m }
 
--- `concat` goes through two matrices and back; the scale is lost and becomes 1
+-- 'concat': from_matrix of the matrices' product, so its scale is always 1
 unfoldable pub concat : Pose → Pose → Pose
 concat p q = fromMatrix (product (toMatrix p) (toMatrix q))

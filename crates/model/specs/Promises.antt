@@ -1,4 +1,4 @@
--- What each public call ensures: an equation for its entire outcome, refused or not, for each player and buffer afterwards. Definitions only.
+-- What each public call ensures, as one record a call with an equation for everything that it returns or writes. Definitions only.
 -- The calls' contracts cite these records, and so do the traces of demand 3.
 use Prim.Native.Nat.{ℕ}
 use mathlib.Core.Path.{_≡_}
@@ -26,7 +26,7 @@ pub record ParameterSet (p : Player) (n : ℕ) (v : Float) (r : Outcome) : Type 
   pub answer : values (r .answer) ≡ setVerdict n
   pub player : r .player ≡ unlessRefused (setVerdict n) (parameterSet p n v) p
 
--- a frame or a page frame; old and new are the output buffer before and after
+-- of either kind. The output buffer holds `old` when the call begins and `new` when it returns
 pub record Framed (kind : FrameKind) (plan : List ℕ) (numbers : List Float) (p : Player) (ext : Float) (old new : List Float) (r : Outcome) : Type 0 where
   pub answer : values (r .answer) ≡ frameVerdict plan numbers p (length old)
   pub player : r .player ≡ unlessRefused (frameVerdict plan numbers p (length old)) (framePlayer plan numbers p ext) p

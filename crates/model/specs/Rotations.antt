@@ -20,7 +20,7 @@ dot p q = p .w *₃₂ q .w +₃₂ p .x *₃₂ q .x +₃₂ p .y *₃₂ q .y 
 abbrev pub scaled : Quaternion → Float → Quaternion
 scaled q f = quaternion (q .w *₃₂ f) (q .x *₃₂ f) (q .y *₃₂ f) (q .z *₃₂ f)
 
--- the factor if the dot product is above 0, else its negative
+-- 'second weight': keeps the sign of the dot product, so that the blend takes the short way round
 abbrev pub secondWeight : Float → Float → Float
 secondWeight d factor = cond (lt 0f d) factor (neg factor)
 
@@ -59,7 +59,7 @@ entry m i j = columnAt (rowAt m i) j
 unfoldable pub identityMatrix : Matrix4
 identityMatrix = record { r0 = row 1f 0f 0f 0f; r1 = row 0f 1f 0f 0f; r2 = row 0f 0f 1f 0f; r3 = row 0f 0f 0f 1f }
 
--- a matrix product entry, row a by column b
+-- one entry of a 'matrix product': four products, summed from the left
 abbrev pub productEntry : Row → Float → Float → Float → Float → Float
 productEntry a b0 b1 b2 b3 = a .c0 *₃₂ b0 +₃₂ a .c1 *₃₂ b1 +₃₂ a .c2 *₃₂ b2 +₃₂ a .c3 *₃₂ b3
 
@@ -83,7 +83,7 @@ floats m =
     m .r2 .c0 ∷ m .r2 .c1 ∷ m .r2 .c2 ∷ m .r2 .c3 ∷
     m .r3 .c0 ∷ m .r3 .c1 ∷ m .r3 .c2 ∷ m .r3 .c3 ∷ []
 
--- ---- quaternion_to_matrix: the transpose of the euclideanspace page's
+-- ---- quaternion_to_matrix. The published page has its transpose
 
 unfoldable pub quaternionToMatrix : Quaternion → Matrix4
 quaternionToMatrix q =
@@ -121,7 +121,7 @@ fromDiagonal m i j k put =
     let s = invSqrt t *₃₂ half in
     put ((entry m j k -₃₂ entry m k j) *₃₂ s) (s *₃₂ t) ((entry m i j +₃₂ entry m j i) *₃₂ s) ((entry m i k +₃₂ entry m k i) *₃₂ s)
 
--- a trace above 0, else the diagonal: entry 1 if greater than entry 0, then entry 2 if greater than that one
+-- the branch: by the trace where that is positive, else by a diagonal entry. At ties, and beside a NaN, the earlier entry stays
 unfoldable pub matrixToQuaternion : Matrix4 → Quaternion
 matrixToQuaternion m =
     let trace = entry m 0 0 +₃₂ entry m 1 1 +₃₂ entry m 2 2 in

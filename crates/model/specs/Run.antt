@@ -26,7 +26,7 @@ startPlayer plan numbers = unlessRefused (startVerdict plan numbers) (fresh plan
 pub data FrameKind : Type 0 where
   ordinary page : FrameKind
 
--- a page frame is as a frame, but each output's upper 3×3 is transposed at the end
+-- what a kind of frame makes of the finished matrices
 unfoldable pub shown : FrameKind → List Matrix4 → List Matrix4
 shown ordinary ms = ms
 shown page ms = map pageMatrix ms
@@ -66,7 +66,7 @@ changed plan numbers p (Frame kind ext outputLength) = framePlayer plan numbers 
 unfoldable pub after : List ℕ → List Float → Player → Call → Player
 after plan numbers p c = unlessRefused (callVerdict plan numbers p c) (changed plan numbers p c) p
 
--- the 16 floats of each chosen joint: of a frame, and none of another call
+-- what the chosen joints show in a call that is accepted
 unfoldable pub chosenFloats : List ℕ → List Float → List ℕ → Player → Call → List (List Float)
 chosenFloats plan numbers chosen p (Update delta) = []
 chosenFloats plan numbers chosen p (Speed v) = []
@@ -81,21 +81,20 @@ pub record Observation : Type 0 where
   pub clock : Float
   pub speed : Float
   pub state : ℕ
-  -- idle or the transition's start, target and duration
   pub transition : Transition
-  -- after an accepted frame the 16 floats of each chosen joint
+  -- by chosen joint; empty unless a frame was accepted
   pub matrices : List (List Float)
 
 unfoldable pub observation : Verdict → Player → List (List Float) → Observation
 observation v p ms = record { answer = v; clock = p .clock; speed = p .speed; state = p .state; transition = p .transition; matrices = unlessRefused v ms [] }
 
 module _ (plan : List ℕ) (numbers : List Float) (chosen : List ℕ) where
-  -- each call takes the player that the run got from the one before
+  -- from a player on, which only the run's own calls change
   unfoldable pub runFrom : Player → List Call → List Observation
   runFrom p [] = []
   runFrom p (c ∷ cs) =
       observation (callVerdict plan numbers p c) (after plan numbers p c) (chosenFloats plan numbers chosen p c) ∷ runFrom (after plan numbers p c) cs
 
-  -- it starts with its own fresh player
+  -- 'run by definition'
   unfoldable pub run : List Call → List Observation
   run calls = runFrom (fresh plan numbers) calls

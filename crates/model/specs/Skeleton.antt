@@ -39,6 +39,6 @@ unfoldable pub flat : List Matrix4 → List Float
 flat [] = []
 flat (m ∷ ms) = floats m ++ flat ms
 
--- the output; later floats in the buffer keep their contents
+-- the output buffer afterwards: what lies behind the joints' floats is as it was
 unfoldable pub written : List ℕ → List Matrix4 → List Float → List Float
 written plan ms old = flat ms ++ drop (16 * jointCount plan) old

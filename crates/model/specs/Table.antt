@@ -1,4 +1,4 @@
--- A list whose every element is made from those before it: the poses of a tree's nodes, the matrices of a skeleton's joints. Definitions only.
+-- Recursion without fuel: each entry of a table comes from the table so far. Nodes' poses and joints' matrices are such tables. Definitions only.
 use Prim.Native.Nat.{ℕ, zero, suc}
 use mathlib.Core.List.{List, [], _∷_, _++_}
 

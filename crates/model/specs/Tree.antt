@@ -14,23 +14,23 @@ use Rattle.model.specs.Clips.{localTime, setPlaybackRate, instanceAt, se
 abbrev pub parameter : List Float → ℕ → Float
 parameter parameters n = getD parameters n nan
 
--- a concat (identity lerp b by p)
+-- 'additive': b, weakened towards the identity by p, on top of a
 unfoldable pub additive : Pose → Pose → Float → Pose
 additive a b p = concat a (lerp identityPose b p)
 
--- (1 − p) × length a + p × length b
+-- 'target': the blended length of two clips
 unfoldable pub targetLength : Float → Float → Float → Float
 targetLength p lengthA lengthB = (1f -₃₂ p) *₃₂ lengthA +₃₂ p *₃₂ lengthB
 
--- own length / target
+-- 'rate' that lets a clip of its own length last the target
 unfoldable pub synchronizedRate : Float → Float → Float
 synchronizedRate own target = own /₃₂ target
 
--- clip instance n takes the rate at the time
+-- the instances with a new playback rate of instance n from a time on
 abbrev pub rateSet : Float → ℕ → Float → List Float → List Float
 rateSet time n rate instances = setInstance instances n (setPlaybackRate (instanceAt instances n) time rate)
 
--- synchronising touches lerp nodes whose inputs are both clips
+-- which nodes 'synchronising' touches
 unfoldable pub isTouched : List ℕ → ℕ → ℕ → Bool
 isTouched plan s i = isLerp plan s i && (isClip plan s (inputA plan s i) && isClip plan s (inputB plan s i))
 
@@ -61,7 +61,7 @@ module _ (plan : List ℕ) (numbers : List Float) (parameters : List Float) (tim
   unfoldable pub synchronize : List Float → List Float
   synchronize instances = synchronizeNodes (nodeCount plan s) instances
 
-  -- ---- a node's pose at joint j comes from the poses of its earlier inputs
+  -- ---- the pose of a node at joint j, made from a table of the poses before it
 
   module _ (instances : List Float) (j : ℕ) where
     unfoldable pub nodePose : List Pose → ℕ → Pose
@@ -77,6 +77,6 @@ module _ (plan : List ℕ) (numbers : List Float) (parameters : List Float) (tim
     unfoldable pub nodePoses : ℕ → List Pose
     nodePoses n = tableTo nodePose n
 
-    -- the last node is the tree's root
+    -- 'root'
     unfoldable pub statePose : Pose
     statePose = getD (nodePoses (nodeCount plan s)) (nodeCount plan s - 1) identityPose

@@ -42,7 +42,7 @@ pub struct ClipInstance {
     pub offset: f32,
 }
 
-// Idle, or in a transition with its start, target and duration.
+// A player's 'transition': none is under way, or one that began at `start` leads to a state and takes `duration` seconds.
 pub enum Transition {
     Idle,
     Running {
@@ -68,7 +68,7 @@ pub enum Answer {
     Refused { number: usize, place: usize },
 }
 
-// What a call that may be refused gives back.
+// An answer with the player to go on with.
 pub struct Outcome {
     pub answer: Answer,
     pub player: Player,

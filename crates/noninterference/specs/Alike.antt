@@ -1,5 +1,5 @@
--- Document 01, "Unseen by the chosen joints": when two figures' numbers, and two lists of calls, are alike apart from the unseen. Definitions only.
--- The two plans are alike word for word: one plan stands for both.
+-- Demand 3's premises: closed sets, and when numbers and calls are alike but for what `model`'s `Unseen` lists. Definitions only.
+-- Plans that agree word for word are one plan here.
 use Prim.Native.Nat.{ℕ, _<_}
 use mathlib.Core.Path.{_≡_}
 use mathlib.Core.Bool.{false}
@@ -10,24 +10,24 @@ use Rattle.model.specs.Plan.{jointCount, parent, isRoot, NumberName, numberAt}
 use Rattle.model.specs.Run.{FrameKind, Call, Update, Speed, Set, Frame}
 use Rattle.model.specs.Unseen.{Read, InPlan, Unseen}
 
--- any closed set of chosen joints: the parent of a chosen joint that is no root is chosen
+-- a 'closed set' of joints has each member's parent, unless that member is a root
 pub record Closed (plan chosen : List ℕ) : Type 0 where
   pub are-joints : (j : ℕ) → List·Memᴰ j chosen → j < jointCount plan
   pub parents : (j : ℕ) → List·Memᴰ j chosen → isRoot plan j ≡ false → List·Memᴰ (parent plan j) chosen
 
--- an unseen number stands at place k
+-- place k holds an unseen number
 pub record UnseenAt (plan chosen : List ℕ) (k : ℕ) : Type 0 where
   pub name : NumberName
   pub in-plan : InPlan plan name
   pub here : numberAt plan name ≡ k
   pub unseen : Unseen plan chosen name
 
--- otherwise alike: numbers place by place
+-- numbers 'alike'
 pub record AlikeNumbers (plan chosen : List ℕ) (a b : List Float) : Type 0 where
   pub lengths : length a ≡ length b
   pub places : (k : ℕ) → k < length a → ¬ UnseenAt plan chosen k → getD a k nan ≡ getD b k nan
 
--- calls in kind, arguments and output length, but for values set on parameters that are not read
+-- calls 'alike'
 pub data AlikeCall (plan : List ℕ) : Call → Call → Type 0 where
   updates : (delta : Float) → AlikeCall plan (Update delta) (Update delta)
   speeds : (v : Float) → AlikeCall plan (Speed v) (Speed v)

@@ -1,4 +1,4 @@
--- A program's calls on one figure, one after another, by their promises alone: each gets the player that the one before returned or left. Definitions only.
+-- What is known of a program that makes calls on one figure: each keeps its promise, and the next gets the player that it returned. Definitions only.
 use Prim.Native.Nat.{ℕ, _*_}
 use mathlib.Core.Path.{_≡_}
 use mathlib.Core.List.{List, [], _∷_, map}
@@ -29,7 +29,7 @@ pub data Trace (plan : List ℕ) (numbers : List Float) : Player → List Event 
   frame : {p : Player} {r : Outcome} {es : List Event} (kind : FrameKind) (ext : Float) (old new : List Float) → Framed kind plan numbers p ext old new r → Trace plan numbers (r .player) es
       → Trace plan numbers p (record { call = Frame kind ext (length old); answer = values (r .answer); player = r .player; output = new } ∷ es)
 
--- an accepted figure's calls, from the player of its start
+-- a trace that begins with an accepted start
 pub record Session (plan : List ℕ) (numbers : List Float) (es : List Event) : Type 0 where
   pub start : Outcome
   pub started : Started plan numbers start
@@ -39,7 +39,7 @@ pub record Session (plan : List ℕ) (numbers : List Float) (es : List Event) : 
 abbrev pub calls : List Event → List Call
 calls es = map (λ e. e .call) es
 
--- ---- what is compared of an event: the chosen joints' floats are read from the output buffer
+-- ---- what is compared of an event, taken from the program's own results
 
 unfoldable pub outputFloats : List ℕ → Call → List Float → List (List Float)
 outputFloats chosen (Update delta) output = []

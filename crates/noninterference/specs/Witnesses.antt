@@ -1,5 +1,5 @@
--- Demand 3 says something: every list of calls has a session from every accepted start, figures that differ at an unseen place are alike, and so are
--- calls that differ in a value set on a parameter that is not read.
+-- Demand 3 is not vacuous: whatever calls one lists, an accepted start has a session of them; changing an unseen number, or a value set on an unread
+-- parameter, keeps two figures or calls alike; and there are unseen numbers.
 use Prim.Native.Nat.{ℕ, _<_}
 use native.Mathlib.Omega.{arith}
 use native.Mathlib.Decide.{ℕ-discrete}
@@ -24,7 +24,7 @@ use Rattle.noninterference.specs.Alike.{Closed, UnseenAt, AlikeNumbers, 
 use Rattle.noninterference.specs.Laws.Answers.{Answerable, require-answerable, check-answerable, frame-answerable}
 use Rattle.noninterference.specs.Trace.{Event, Trace, end, update, setSpeed, setParameter, frame, Session, calls}
 
--- ---- every list of calls has a trace from every player
+-- ---- sessions
 
 pub record Performed (plan : List ℕ) (numbers : List Float) (p : Player) (cs : List Call) : Type 0 where
   pub events : List Event

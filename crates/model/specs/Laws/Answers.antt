@@ -28,7 +28,7 @@ unfolding require
 require-true true n p e = refl
 require-true false n p e = cc
 
--- ---- a loop over a row: it goes on, or the first refusal is the whole row's
+-- ---- for a loop over `each`: one more check passed, or the loop ends with its refusal
 
 pub then-accepted : (a b : Verdict) → a ≡ accepted → a then b ≡ b
 unfolding _then_

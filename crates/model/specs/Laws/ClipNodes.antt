@@ -1,4 +1,4 @@
--- A clip node's number tells its state.
+-- From `clipNode` one can tell the state, and it is below the count of all.
 use Prim.Native.Nat.{ℕ, _<_}
 use native.Mathlib.Omega.{arith}
 use mathlib.Core.Path.{_≡_}
@@ -8,7 +8,7 @@ use Rattle.model.specs.Plan.{nodeCount, isClip, clipNodesAmong, clipNode
 use Rattle.model.specs.Laws.Totals.{total-below, same-row}
 
 module _ (plan : List ℕ) where
-  -- a clip of a state has a number below their count
+  -- within a state
   among : (s i : ℕ) → i < nodeCount plan s → isClip plan s i ≡ true → clipNodesAmong plan s i < clipNodesAmong plan s (nodeCount plan s)
   unfolding clipNodesAmong
   among s i h e =
@@ -19,7 +19,7 @@ module _ (plan : List ℕ) where
   unfolding clipNode clipNodesBefore
   same-state s i u k hi ei hk ek e = same-row (λ s. clipNodesAmong plan s (nodeCount plan s)) s (clipNodesAmong plan s i) u (clipNodesAmong plan u k) (among s i hi ei) (among u k hk ek) e
 
-  -- and of all, so each of at most 64 has an instance
+  -- over the first n states: so each clip node of an accepted plan has its instance
   pub clip-node-below : (s i n : ℕ) → s < n → i < nodeCount plan s → isClip plan s i ≡ true → clipNode plan s i < clipNodesBefore plan n
   unfolding clipNode clipNodesBefore
   clip-node-below s i n h hi e = total-below (λ s. clipNodesAmong plan s (nodeCount plan s)) n s (clipNodesAmong plan s i) h (among s i hi e)

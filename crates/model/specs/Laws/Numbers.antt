@@ -1,4 +1,4 @@
--- No two names of numbers share a place, and every name of the plan has one.
+-- `numberAt` is one to one on the names that a plan has, and stays below the numbers' length.
 use Prim.Native.Nat.{ℕ, _+_, _*_, _<_}
 use native.Mathlib.Omega.{arith}
 use mathlib.Core.Path.{_≡_, ap}

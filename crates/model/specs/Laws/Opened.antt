@@ -1,4 +1,4 @@
--- One name that opens every definition, for what is shown by computing.
+-- Names that unfold whole groups of definitions, for theorems that are shown by computing.
 use lib.Ieee.{add, sub, mul, div, lt, le, eq, ne, neg, odd, size, round, ofInt, toUnsigned, toBits, ofBits}
 use Rattle.model.specs.Numbers.{narrow, whole, floor, ceiling, floorIndex, ceilingIndex, indexFloat, firstGuess, invSqrt}
 use Rattle.model.specs.Rotations.{normalised, lerpQuaternion, identityMatrix, productRow, product, floats, quaternionToMatrix, fromTrace, fromDiagonal, matrixToQuaternion}

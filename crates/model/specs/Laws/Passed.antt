@@ -1,4 +1,4 @@
--- What a plan that passed the check is known to be.
+-- Facts about a plan whose check accepted.
 use Prim.Native.Nat.{ℕ, zero, suc, _+_, _≤_, _<_}
 use native.Mathlib.Omega.{arith}
 use mathlib.Core.Path.{_≡_, refl}

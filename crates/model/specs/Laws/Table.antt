@@ -14,7 +14,7 @@ module _ {A : Type 0} (f : List A → ℕ → A) where
   table-length zero = refl
   table-length (suc n) = length-append (tableTo f n) (f (tableTo f n) n ∷ []) ∙ omega (arith, table-length n)
 
-  -- element i is made from the first i
+  -- an entry depends on the table before it only
   pub table-at : (n : ℕ) (d : A) (i : ℕ) → i < n → getD (tableTo f n) i d ≡ f (tableTo f i) i
   unfolding tableTo
   table-at zero d i h = absurd (omega arith)
@@ -24,7 +24,7 @@ module _ {A : Type 0} (f : List A → ℕ → A) where
       go (yes e) later = rw e (getD-at (tableTo f n) (f (tableTo f n) n) [] d n (table-length n))
       go (no e) later = List·getD-append (tableTo f n) (f (tableTo f n) n ∷ []) d i (omega (arith, table-length n)) ∙ later d i (omega arith)
 
--- the same elements from the same lists
+-- functions that agree make the same table
 pub table-same : {A : Type 0} (f g : List A → ℕ → A) (n : ℕ) → ((l : List A) (i : ℕ) → i < n → f l i ≡ g l i) → tableTo f n ≡ tableTo g n
 unfolding tableTo
 table-same f g zero same = refl

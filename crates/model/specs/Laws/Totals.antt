@@ -1,4 +1,4 @@
--- Laws of `total`: where rows of sizes f 0, f 1, .. stand one after another, a place tells its row and its place in the row.
+-- Laws of `total`: with blocks of f 0, f 1, .. elements laid end to end, an offset determines its block and the offset inside it.
 use Prim.Native.Nat.{ℕ, zero, suc, _+_, _*_, _<_}
 use native.Mathlib.Omega.{arith}
 use native.Mathlib.Decide.{ℕ-discrete, decLt}
@@ -27,7 +27,7 @@ module _ (f : ℕ → ℕ) where
   pub same-place : (i k j l : ℕ) → k < f i → l < f j → total f i + k ≡ total f j + l → k ≡ l
   same-place i k j l hk hl e = let p : total f i ≡ total f j = ap (total f) (same-row i k j l hk hl e) in omega arith
 
--- rows of one size
+-- blocks of equal size
 total-even : (m n : ℕ) → total (λ i. m) n ≡ n * m
 unfolding total
 total-even m zero = sym (zero-mul m)

@@ -1,4 +1,4 @@
--- Two lists alike at certain places, two choices alike in each case: of no figure in particular.
+-- Choices and lists that agree where it matters: nothing here is about figures.
 use Prim.Native.Nat.{ℕ, _<_}
 use native.Mathlib.Omega.{arith}
 use native.Mathlib.Decide.{ℕ-discrete, decLt}
@@ -8,7 +8,7 @@ use mathlib.Core.List.{List, [], _∷_, map, List·Memᴰ, List·Memᴰ·head, L
 use lib.ListN.{length, getD, set, length-set}
 use lib.Seq.{getD-set-same, getD-set-other, set-out}
 
--- a choice, by a relation that holds in each case
+-- related case by case
 pub cond-both {ℓ} : {A : Type ℓ} (R : A → A → Type 0) (b : Bool) {x y z w : A} → (b ≡ true → R x z) → (b ≡ false → R y w) → R (cond b x y) (cond b z w)
 cond-both R true f g = f refl
 cond-both R false f g = g refl
@@ -22,7 +22,7 @@ pub cond-has {ℓ} : {A : Type ℓ} (P : A → Type 0) (b : Bool) {x y : A} → 
 cond-has P true p q = p
 cond-has P false p q = q
 
--- the two lists are as long, and hold the same at each place that R names
+-- equal lengths, and equal elements wherever R holds
 pub record SameAt {A : Type 0} (d : A) (R : ℕ → Type 0) (l m : List A) : Type 0 where
   pub lengths : length l ≡ length m
   pub at : (k : ℕ) → R k → getD l k d ≡ getD m k d

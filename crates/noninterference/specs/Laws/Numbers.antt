@@ -1,4 +1,4 @@
--- Two lists of numbers alike but for the unseen hold the same under each name that can be seen.
+-- What alike numbers have in common: transitions of reachable states, rates of played clips, and their poses at chosen joints.
 use Prim.Native.Nat.{ℕ, _<_}
 use native.Mathlib.Omega.{arith}
 use native.Mathlib.Nat.{mod-lt}

@@ -54,7 +54,7 @@ module _ (plan chosen : List ℕ) (numbers : List Float) (closed : Closed plan c
   frame-observed accepted p q ext kind old = rw (frame-floats p ext kind old)
   frame-observed (refused n at r) p q ext kind old = refl
 
-  -- ---- an event is what the definitions say of its call on the player p
+  -- ---- each event agrees with the definitions
 
   record Defined (p : Player) (e : Event) : Type 0 where
     answer : e .answer ≡ callVerdict plan numbers p (e .call)

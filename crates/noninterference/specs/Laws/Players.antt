@@ -1,4 +1,4 @@
--- Two players that are alike in all that can be seen, now or later. Each call keeps them so and shows the same.
+-- The invariant between two players, that every call keeps it, and that so the two runs by definition agree.
 use Prim.Native.Nat.{ℕ, zero, suc, _+_, _≤_, _<_}
 use native.Mathlib.Omega.{arith}
 use mathlib.Core.Path.{_≡_, refl, sym, ap, _∙_, subst}
@@ -45,10 +45,9 @@ pub record Together (plan : List ℕ) (p q : Player) : Type 0 where
   pub parameters : SameAt nan (Read plan) (p .parameters) (q .parameters)
   pub instances : SameInstances plan (p .instances) (q .instances)
 
--- ---- skeleton: the chosen joints' matrices come from the chosen joints' poses
+-- ---- skeleton: a closed set's matrices depend on its own poses only
 
 module _ (plan chosen : List ℕ) (k : ℕ) (ok : check plan k ≡ accepted) (closed : Closed plan chosen) (f g : ℕ → Pose) (same : (j : ℕ) → List·Memᴰ j chosen → f j ≡ g j) where
-  -- joint j's, for each j below n
   matrix-same : (n j : ℕ) → j < n → List·Memᴰ j chosen → jointMatrix plan f (tableTo (jointMatrix plan f) j) j ≡ jointMatrix plan g (tableTo (jointMatrix plan g) j) j
   unfolding jointMatrix parentMatrix
   matrix-same zero j h m = absurd (omega arith)

@@ -1,4 +1,4 @@
--- Synchronising and evaluating a reachable state gives the same in two figures alike but for the unseen.
+-- Alike figures synchronise alike, and a reachable state has the same pose at a chosen joint in both.
 use Prim.Native.Nat.{ℕ, zero, suc, _+_, _*_, _/_, _≤_, _<_}
 use native.Mathlib.Omega.{arith}
 use mathlib.Core.Path.{_≡_, refl, sym, ap, _∙_, subst}
@@ -22,11 +22,11 @@ use Rattle.noninterference.specs.Alike.{Closed, AlikeNumbers}
 use Rattle.noninterference.specs.Laws.Lists.{cond-both, cond-same, SameAt, same-set}
 use Rattle.noninterference.specs.Laws.Numbers.{duration-same, clip-same}
 
--- clip instance n belongs to a clip node of a reachable state
+-- instance n is one that a reachable state uses
 pub data Belongs (plan : List ℕ) : ℕ → Type 0 where
   belongs : {s : ℕ} → Reachable plan s → (i : ℕ) → i < nodeCount plan s → isClip plan s i ≡ true → (n : ℕ) → n ≡ clipNode plan s i → Belongs plan n
 
--- two players' instances hold the same wherever an instance of a reachable state stands
+-- the part of the invariant about clip instances: three floats for each
 abbrev pub SameInstances : List ℕ → List Float → List Float → Type 0
 SameInstances plan is ks = SameAt nan (λ k. Belongs plan (k / 3)) is ks
 
