@@ -1,7 +1,7 @@
 -- Document 01, "Numbers (math.rs)", first half: the operations, the conversions, inv_sqrt. Definitions only.
 -- A float is lib.Ieee's: one NaN, both widths in one type.
 use Prim.Native.Nat.{ℕ, _+_, _-_, _*_, _/_, _%_, _^_}
-use mathlib.Core.Bool.{Bool, true, false, cond}
+use mathlib.Core.Bool.{Bool, cond}
 use lib.IntN.{pos}
 use lib.Dec.{leb, eqb}
 use lib.Ieee.{Float, nan, inf, fin, up, down, size, odd, binary32, binary64, add, sub, mul, div, round, ofInt, toUnsigned, toBits, ofBits}

@@ -1,12 +1,12 @@
 -- Demand 3 is not vacuous: whatever calls one lists, an accepted start has a session of them; changing an unseen number, or a value set on an unread
 -- parameter, keeps two figures or calls alike; and there are unseen numbers.
-use Prim.Native.Nat.{ℕ, _<_}
+use Prim.Native.Nat.{ℕ}
 use native.Mathlib.Omega.{arith}
 use native.Mathlib.Decide.{ℕ-discrete}
 use mathlib.Core.Path.{_≡_, refl, sym, ap, ap₂, _∙_, subst}
 use mathlib.Core.Logic.{inl}
 use mathlib.Core.Bool.{true, false}
-use mathlib.Core.List.{List, [], _∷_, List·Memᴰ, List·Memᴰ·head, List·Memᴰ·tail}
+use mathlib.Core.List.{List, [], _∷_, List·Memᴰ, List·Memᴰ·head}
 use lib.ListN.{length, getD, set, replicate, length-set, length-replicate}
 use lib.Seq.{getD-set-other}
 use lib.Ieee.{Float, nan}
@@ -17,7 +17,7 @@ use Rattle.model.specs.Answers.{accepted, unlessRefused}
 use Rattle.model.specs.Plan.{PoseFloat}
 use Rattle.model.specs.Controller.{withSpeed, updated, parameterSet, setVerdict, frameVerdict}
 use Rattle.model.specs.Skeleton.{written}
-use Rattle.model.specs.Run.{startVerdict, startPlayer, FrameKind, framePlayer, frameMatrices, Call, Update, Speed, Set, Frame}
+use Rattle.model.specs.Run.{startVerdict, startPlayer, framePlayer, frameMatrices, Call, Update, Speed, Set, Frame}
 use Rattle.model.specs.Unseen.{Read}
 use Rattle.model.specs.Laws.Opened.{check-opened}
 use Rattle.noninterference.specs.Alike.{Closed, UnseenAt, AlikeNumbers, AlikeCall, sets}

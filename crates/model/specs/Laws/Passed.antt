@@ -1,11 +1,10 @@
 -- Facts about a plan whose check accepted.
-use Prim.Native.Nat.{ℕ, zero, suc, _+_, _≤_, _<_}
-use native.Mathlib.Omega.{arith}
+use Prim.Native.Nat.{ℕ, _+_, _≤_, _<_}
 use mathlib.Core.Path.{_≡_, refl}
 use mathlib.Core.Bool.{Bool, true, false, _&&_, _||_}
 use mathlib.Core.List.{List}
 use lib.ListN.{length}
-use lib.Dec.{ltb, eqb}
+use lib.Dec.{ltb}
 use borrow.Author.Tests.{ltb-true, leb-true, eqb-true}
 use Rattle.model.specs.Answers.{accepted, each}
 use Rattle.model.specs.Plan.{jointCount, clipCount, parameterCount, stateCount, initialState, parentAt, parent, isRoot, sampleCountAt, sampleCount, stateAt, nodeCount, nodeAt, isClip, inputA, inputB, transitionCountAt, transitionCount, transitionAt, conditionParameter, targetState, numbersLength}
@@ -106,9 +105,9 @@ module _ (plan : List ℕ) (n : ℕ) (ok : check plan n ≡ accepted) where
     unfolding checkNode
     node-there i h = word-there _ _ _ _ (then-right _ _ (node-passed i h))
 
-    pub count-of-transitions-there : transitionCountAt plan s < length plan
+    pub transition-count-there : transitionCountAt plan s < length plan
     unfolding checkState
-    count-of-transitions-there = word-there _ _ _ _ (then-right _ _ (then-left _ _ state-passed))
+    transition-count-there = word-there _ _ _ _ (then-right _ _ (then-left _ _ state-passed))
 
     pub transition-there : (t : ℕ) → t < transitionCount plan s → transitionAt plan s t + 2 < length plan
     unfolding checkState checkTransition

@@ -4,7 +4,7 @@ use native.Mathlib.Omega.{arith}
 use mathlib.Core.Path.{_≡_, refl, sym, ap, ap₂, _∙_}
 use mathlib.Core.List.{List, [], _∷_, _++_, map, append-assoc}
 use lib.ListN.{length, getD, take, drop, length-map}
-use lib.Seq.{take-at, drop-append-add}
+use lib.Seq.{drop-append-add}
 use lib.Ieee.{Float}
 use Rattle.model.specs.declared.Matrix4.{Matrix4}
 use Rattle.model.specs.declared.Player.{Player}
@@ -14,7 +14,7 @@ use Rattle.model.specs.Answers.{Verdict, accepted, refused, values, unlessRefus
 use Rattle.model.specs.Plan.{jointCount}
 use Rattle.model.specs.Controller.{blank, fresh, frameVerdict}
 use Rattle.model.specs.Skeleton.{jointMatrices, pageMatrix, flat, written}
-use Rattle.model.specs.Run.{startVerdict, startPlayer, FrameKind, ordinary, page, shown, frameMatrices, Call, Update, Speed, Set, Frame, callVerdict, changed, after, chosenFloats, Observation, observation, runFrom, run}
+use Rattle.model.specs.Run.{startVerdict, startPlayer, FrameKind, ordinary, page, shown, frameMatrices, Update, Speed, Set, Frame, callVerdict, changed, after, chosenFloats, Observation, observation, runFrom, run}
 use Rattle.model.specs.Promises.{Updated, SpeedSet, ParameterSet, Framed}
 use Rattle.model.specs.Laws.Table.{table-length}
 use Rattle.noninterference.specs.Alike.{Closed}

@@ -2,7 +2,6 @@
 use Prim.Native.Nat.{ℕ, zero, suc, _+_, _≤_, _<_}
 use native.Mathlib.Omega.{arith}
 use mathlib.Core.Path.{_≡_, refl, sym, ap, _∙_, subst}
-use mathlib.Core.Bool.{true, false}
 use mathlib.Core.List.{List, List·Memᴰ}
 use lib.ListN.{length, getD, replicate, List·getD-map}
 use lib.Ieee.{Float, nan}
@@ -17,7 +16,7 @@ use Rattle.model.specs.Pose.{toMatrix}
 use Rattle.model.specs.Answers.{Verdict, accepted, refused, unlessRefused}
 use Rattle.model.specs.Plan.{maxParameters, jointCount, stateCount, parent, isRoot, transitionCount}
 use Rattle.model.specs.Check.{check}
-use Rattle.model.specs.Controller.{blank, withSpeed, withState, withTransition, synchronizeStates, fresh, updated, parameterSet, frameVerdict, nowAt, isEnded, conditionHolds, begun, firstPassing, stepFrom, stepped, elapsed, currentInstances, targetInstances, instancesIn, synchronized, currentPose, targetPose, poseIn, jointPose}
+use Rattle.model.specs.Controller.{blank, synchronizeStates, fresh, frameVerdict, nowAt, isEnded, conditionHolds, begun, firstPassing, stepFrom, stepped, elapsed, currentInstances, targetInstances, instancesIn, synchronized, currentPose, targetPose, poseIn, jointPose}
 use Rattle.model.specs.Tree.{statePose}
 use Rattle.model.specs.Skeleton.{parentMatrix, jointMatrix, jointMatrices, pageMatrix}
 use Rattle.model.specs.Run.{FrameKind, ordinary, page, shown, framePlayer, frameMatrices, Call, callVerdict, changed, after, chosenFloats, observation, runFrom}

@@ -13,7 +13,7 @@ use Rattle.model.specs.Answers.{accepted}
 use Rattle.model.specs.Plan.{stateCount, nodeCount, kind, isClip, isLerp, inputA, inputB, clipNode}
 use Rattle.model.specs.Check.{check}
 use Rattle.model.specs.Clips.{localTime, setPlaybackRate, instanceAt, clipPose}
-use Rattle.model.specs.Tree.{parameter, rateSet, isTouched, nodeLength, nodeTarget, inputSynchronized, synchronizeNode, synchronizeNodes, synchronize, nodePose, nodePoses, statePose}
+use Rattle.model.specs.Tree.{rateSet, isTouched, nodeLength, nodeTarget, inputSynchronized, synchronizeNode, synchronizeNodes, synchronize, nodePose, nodePoses, statePose}
 use Rattle.model.specs.Unseen.{Reachable, plays, Read, byNode}
 use Rattle.model.specs.Laws.Passed.{a-earlier, b-earlier, and-left, and-right}
 use Rattle.model.specs.Laws.ClipNodes.{same-state}
