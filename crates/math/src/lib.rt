@@ -113,7 +113,7 @@ pub fn quaternion_to_matrix(q: Quaternion) -> Matrix4
     }
 }
 
-// A quaternion before its scaling by the inverse root of t, halved: matrix_to_quaternion takes one root, after its tests.
+// A quaternion that half the inverse root of t is yet to scale. matrix_to_quaternion takes that root once, after its tests.
 struct Unscaled {
     t: f32,
     q: Quaternion,
@@ -194,8 +194,7 @@ pub fn matrix_to_quaternion(m: Matrix4) -> Quaternion
     ensures { λ r. ⌜ r ≡ matrixToQuaternion m ⌝ }
 {
     let u = unscaled_rotation(m);
-    let q = u.q;
-    scaled(q, inv_sqrt(u.t) * 0.5)
+    scaled(u.q, inv_sqrt(u.t) * 0.5)
 }
 
 // A row of the product: the row a by each column of b.
@@ -214,14 +213,10 @@ pub fn product_row(a: Row, b: Matrix4) -> Row
 pub fn row_mat4_mul(a: Matrix4, b: Matrix4) -> Matrix4
     ensures { λ r. ⌜ r ≡ product a b ⌝ }
 {
-    let p = product_row(a.r0, b);
-    let q = product_row(a.r1, b);
-    let s = product_row(a.r2, b);
-    let t = product_row(a.r3, b);
     Matrix4 {
-        r0: p,
-        r1: q,
-        r2: s,
-        r3: t,
+        r0: product_row(a.r0, b),
+        r1: product_row(a.r1, b),
+        r2: product_row(a.r2, b),
+        r3: product_row(a.r3, b),
     }
 }
