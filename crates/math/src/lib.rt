@@ -132,6 +132,7 @@ fn from_trace(m: Matrix4, trace: f32) -> Unscaled
     Unscaled { t, q }
 }
 
+// By diagonal entry 0. The Rust's i, j and k are written out for each of the three, so that no index is looked up.
 fn from_diagonal_0(m: Matrix4) -> Unscaled
     ensures { λ r. ⌜ scaledByRoot r ≡ fromDiagonal m 0 1 2 (λ w qi qj qk. quaternion w qi qj qk) ⌝ }
 {

@@ -80,9 +80,10 @@ pub fn from_matrix(m: Matrix4) -> Pose
         y: m.r1.c3,
         z: m.r2.c3,
     };
+    let scale = 1.0;
     Pose {
         translation,
-        scale: 1.0,
+        scale,
         rotation,
     }
 }
