@@ -16,4 +16,4 @@ returns c =
     (c .before .if1 .came)
 
 pub first-guess-spec : {M : Type 1} → statement M
-first-guess-spec = tie.close (tie.spec (λ c. search needs) (λ c κs. search needs) returns)
+first-guess-spec = tie.close (tie.spec (search needs) (search needs) returns)
