@@ -1,11 +1,11 @@
 -- A float as an index: what the tests of `floor_index` and `ceiling_index` tell. And an index of 25 digits or more as a float. Assumes nothing.
-use mathlib.Core.Path.{_≡_, refl, sym, ap, _∙_, subst}
-use mathlib.Core.Logic.{inr}
+use mathlib.Core.Path.{_≡_, refl, sym, _∙_, subst}
+use mathlib.Core.Logic.{inl, inr}
 use Prim.Native.Nat.{ℕ, zero, suc, _+_, _-_, _*_, _/_, _%_, _^_, _≤_, _<_, min, compare·suc-zero}
 use native.Mathlib.Nat.{zero-add, add-zero, mul-one, one-mul, mul-right-comm, mul-le-mul-right, mul-lt-mul-of-pos-right, mul-div-cancel, mod-one, div-add-mod', le-div-iff-mul-le, div-lt-iff-lt-mul, lt-of-lt-of-le, lt-of-not-le, not-le-of-lt, min-eq-left, le-of-lt, div-le-self}
 use native.Mathlib.Omega.{arith}
-use mathlib.Core.Bool.{Bool, true, false, not, _&&_, cond}
-use lib.Dec.{T, leb, ltb, eqb, lit<, lit≤, ltb→lt, nltb→le}
+use mathlib.Core.Bool.{Bool, true, false, _&&_, cond}
+use lib.Dec.{T, leb, ltb, eqb, lit<, lit≤, ltb→lt}
 use borrow.Author.Tests.{ltb-true, ltb-false, lt-ltb, le-ltb}
 use lib.IntN.{ℤ, pos, negsuc}
 use lib.Pow.{pow-add, pow-pos, pow-mono, shr-lt}
@@ -16,7 +16,7 @@ use lib.Ieee.Exact.{HasValue, odd-sign}
 use lib.Ieee.Back.{round-whole}
 use lib.Ieee.Nearest.{closest}
 use Rattle.model.specs.Numbers.{whole, carry, floor, ceiling, floorIndex, ceilingIndex, indexFloat}
-use Rattle.float.proofs.Rounding.{closest-le, round-bits}
+use Rattle.float.proofs.Rounding.{le-or-lt, closest-le, round-bits}
 
 abbrev most : ℕ
 most = 0xffff_ffff_ffff_ffff
@@ -78,11 +78,10 @@ small-index (fin true m e) h = lit≤ tt
 small-index (fin false m e) h = let l = below-power m e 24 h in omega arith
 
 scaled : (a b c : ℕ) → 0 < c → ltb (a * c) (b * c) ≡ ltb a b
-scaled a b c p = go (ltb a b) (ltb→lt a b) (nltb→le a b)
-  where
-    go : (t : Bool) → (T t → a < b) → (T (not t) → b ≤ a) → ltb (a * c) (b * c) ≡ t
-    go true h n = lt-ltb (a * c) (b * c) (mul-lt-mul-of-pos-right (h tt) p)
-    go false h n = le-ltb (a * c) (b * c) (mul-le-mul-right c (n tt))
+scaled a b c p = elim (le-or-lt b a) [
+  | inl h ↦ rw (le-ltb a b h, le-ltb (a * c) (b * c) (mul-le-mul-right c h))
+  | inr h ↦ rw (lt-ltb a b h, lt-ltb (a * c) (b * c) (mul-lt-mul-of-pos-right h p))
+]
 
 -- a whole number against a fraction
 whole-lt : (y : Float) (m : ℕ) (e : ℤ) (n : ℕ) → HasValue y false n 1 → lt y (fin false m e) ≡ ltb (n * down e) (m * up e)

@@ -1,11 +1,10 @@
 -- `float::index_to_float` meets its contract: below 2 ^ 24 the cast is exact, and above, the 24 leading digits are rounded to a pattern. Assumes nothing.
-use mathlib.Core.Path.{_≡_, refl, sym, ap, _∙_}
-use Prim.Native.Nat.{ℕ, _+_, _*_, _^_, _<_}
+use mathlib.Core.Path.{refl}
+use Prim.Native.Nat.{_+_, _*_, _^_, _<_}
 use native.Mathlib.Omega.{arith}
 use borrow.Author.Needs.{needs}
 use lib.Dec.{le→leb}
 use lib.Ieee.{inFloat}
-use lib.Ieee.Nearest.{closest}
 use Rattle.model.specs.Numbers.{indexFloat}
 use Rattle.float.proofs.Index.{gone, Leading, leading, index-pattern-lt, index-bits}
 use Rattle.float.proofs.index_to_float.Statement.{statement}
