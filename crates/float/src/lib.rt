@@ -69,7 +69,7 @@ fn rounding_shift(n: u64, k: u64) -> u64
     }
 }
 
-// The 32-bit pattern, without its sign, that the fields of a finite 64-bit pattern round to.
+// The 32-bit pattern, without its sign, that the fields of a finite 64-bit pattern round to, by the ranges of `narrowPattern`.
 fn narrow_pattern(exponent: u64, fraction: u64) -> u64
     requires { ⌜ (exponent < 2047) × (fraction < 2 ^ 52) ⌝ }
     ensures { λ r. ⌜ r ≡ narrowPattern exponent fraction ⌝ }
