@@ -1,0 +1,216 @@
+// Ports math.rs: inv_sqrt, lerp_quaternion, both rotation conversions, and vecmath's matrix product.
+use model::Matrix4;
+use model::Quaternion;
+use model::Row;
+ghost use mathlib.Core.Path.{_≡_};
+ghost use Rattle.model.specs.Numbers.{firstGuess, invSqrt};
+ghost use Rattle.model.specs.Rotations.{dot, scaled, secondWeight, weightedSum, normalised, lerpQuaternion, productRow, product, identityMatrix, quaternionToMatrix, matrixToQuaternion};
+
+// The first guess of inv_sqrt: the pattern shifted right by one with its sign, subtracted from 5f3759df. The subtraction wraps.
+pub fn first_guess(bits: u32) -> u32
+    ensures { λ r. ⌜ r ≡ firstGuess bits ⌝ }
+{
+    let shifted = if bits < 0x8000_0000 {
+        bits >> 1
+    } else {
+        (bits >> 1) + 0x8000_0000
+    };
+    std::num::wrapping_sub_u32(0x5f37_59df, shifted)
+}
+
+pub fn inv_sqrt(x: f32) -> f32
+    ensures { λ r. ⌜ r ≡ invSqrt x ⌝ }
+{
+    let x2 = x * 0.5;
+    let y = float::f32_from_bits(first_guess(float::f32_to_bits(x)));
+    y * (1.5 - x2 * y * y)
+}
+
+fn dot(p: Quaternion, q: Quaternion) -> f32
+    ensures { λ r. ⌜ r ≡ dot p q ⌝ }
+{
+    p.w * q.w + p.x * q.x + p.y * q.y + p.z * q.z
+}
+
+fn scaled(q: Quaternion, f: f32) -> Quaternion
+    ensures { λ r. ⌜ r ≡ scaled q f ⌝ }
+{
+    Quaternion {
+        w: q.w * f,
+        x: q.x * f,
+        y: q.y * f,
+        z: q.z * f,
+    }
+}
+
+// The factor if the dot product is above 0, else its negative.
+fn second_weight(d: f32, factor: f32) -> f32
+    ensures { λ r. ⌜ r ≡ secondWeight d factor ⌝ }
+{
+    if d > 0.0 { factor } else { -factor }
+}
+
+fn weighted_sum(s: f32, p: Quaternion, t: f32, q: Quaternion) -> Quaternion
+    ensures { λ r. ⌜ r ≡ weightedSum s p t q ⌝ }
+{
+    Quaternion {
+        w: s * p.w + t * q.w,
+        x: s * p.x + t * q.x,
+        y: s * p.y + t * q.y,
+        z: s * p.z + t * q.z,
+    }
+}
+
+pub fn lerp_quaternion(p: Quaternion, q: Quaternion, factor: f32) -> Quaternion
+    ensures { λ r. ⌜ r ≡ lerpQuaternion p q factor ⌝ }
+{
+    let t = second_weight(dot(p, q), factor);
+    let sum = weighted_sum(1.0 - factor, p, t, q);
+    scaled(sum, inv_sqrt(dot(sum, sum)))
+}
+
+pub fn quaternion_to_matrix(q: Quaternion) -> Matrix4
+    ensures { λ r. ⌜ r ≡ quaternionToMatrix q ⌝ }
+{
+    let x2 = q.x + q.x;
+    let y2 = q.y + q.y;
+    let z2 = q.z + q.z;
+    let xx2 = x2 * q.x;
+    let xy2 = x2 * q.y;
+    let xz2 = x2 * q.z;
+    let yy2 = y2 * q.y;
+    let yz2 = y2 * q.z;
+    let zz2 = z2 * q.z;
+    let wy2 = y2 * q.w;
+    let wz2 = z2 * q.w;
+    let wx2 = x2 * q.w;
+    Matrix4 {
+        r0: Row {
+            c0: 1.0 - yy2 - zz2,
+            c1: xy2 + wz2,
+            c2: xz2 - wy2,
+            c3: 0.0,
+        },
+        r1: Row {
+            c0: xy2 - wz2,
+            c1: 1.0 - xx2 - zz2,
+            c2: yz2 + wx2,
+            c3: 0.0,
+        },
+        r2: Row {
+            c0: xz2 + wy2,
+            c1: yz2 - wx2,
+            c2: 1.0 - xx2 - yy2,
+            c3: 0.0,
+        },
+        r3: Row {
+            c0: 0.0,
+            c1: 0.0,
+            c2: 0.0,
+            c3: 1.0,
+        },
+    }
+}
+
+// What matrix_to_quaternion scales: t, whose inverse root is taken, and the four parts before it.
+struct Parts {
+    t: f32,
+    q: Quaternion,
+}
+
+// By the trace, or by the diagonal entry that the tests pick. One inv_sqrt serves them all, after the tests.
+fn parts_of(m: Matrix4) -> Parts {
+    let p = m.r0;
+    let q = m.r1;
+    let s = m.r2;
+    let trace = p.c0 + q.c1 + s.c2;
+    if trace > 0.0 {
+        let t = trace + 1.0;
+        return Parts {
+            t,
+            q: Quaternion {
+                w: t,
+                x: q.c2 - s.c1,
+                y: s.c0 - p.c2,
+                z: p.c1 - q.c0,
+            },
+        };
+    }
+    if q.c1 > p.c0 {
+        if s.c2 > q.c1 {
+            return by2(p, q, s);
+        }
+        let t = (q.c1 - (s.c2 + p.c0)) + 1.0;
+        return Parts {
+            t,
+            q: Quaternion {
+                w: s.c0 - p.c2,
+                x: q.c0 + p.c1,
+                y: t,
+                z: q.c2 + s.c1,
+            },
+        };
+    }
+    if s.c2 > p.c0 {
+        return by2(p, q, s);
+    }
+    let t = (p.c0 - (q.c1 + s.c2)) + 1.0;
+    Parts {
+        t,
+        q: Quaternion {
+            w: q.c2 - s.c1,
+            x: t,
+            y: p.c1 + q.c0,
+            z: p.c2 + s.c0,
+        },
+    }
+}
+
+fn by2(p: Row, q: Row, s: Row) -> Parts {
+    let t = (s.c2 - (p.c0 + q.c1)) + 1.0;
+    Parts {
+        t,
+        q: Quaternion {
+            w: p.c1 - q.c0,
+            x: s.c0 + p.c2,
+            y: s.c1 + q.c2,
+            z: t,
+        },
+    }
+}
+
+pub fn matrix_to_quaternion(m: Matrix4) -> Quaternion
+    ensures { λ r. ⌜ r ≡ matrixToQuaternion m ⌝ }
+{
+    let parts = parts_of(m);
+    let q = parts.q;
+    scaled(q, inv_sqrt(parts.t) * 0.5)
+}
+
+// A row of the product: the row a by each column of b.
+pub fn product_row(a: Row, b: Matrix4) -> Row
+    ensures { λ r. ⌜ r ≡ productRow a b ⌝ }
+{
+    Row {
+        c0: a.c0 * b.r0.c0 + a.c1 * b.r1.c0 + a.c2 * b.r2.c0 + a.c3 * b.r3.c0,
+        c1: a.c0 * b.r0.c1 + a.c1 * b.r1.c1 + a.c2 * b.r2.c1 + a.c3 * b.r3.c1,
+        c2: a.c0 * b.r0.c2 + a.c1 * b.r1.c2 + a.c2 * b.r2.c2 + a.c3 * b.r3.c2,
+        c3: a.c0 * b.r0.c3 + a.c1 * b.r1.c3 + a.c2 * b.r2.c3 + a.c3 * b.r3.c3,
+    }
+}
+
+// vecmath's product of two matrices, row by column.
+pub fn row_mat4_mul(a: Matrix4, b: Matrix4) -> Matrix4
+    ensures { λ r. ⌜ r ≡ product a b ⌝ }
+{
+    let p = product_row(a.r0, b);
+    let q = product_row(a.r1, b);
+    let s = product_row(a.r2, b);
+    let t = product_row(a.r3, b);
+    Matrix4 {
+        r0: p,
+        r1: q,
+        r2: s,
+        r3: t,
+    }
+}
