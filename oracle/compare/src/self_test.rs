@@ -34,7 +34,7 @@ fn spoiled(subject: Subject, spoil: &dyn Fn(&mut Vec<String>)) -> io::Result<usi
     Ok(mismatches(&random_rows(ROWS, SEED), &faulty)?.len())
 }
 
-/// A subject that is wrong for negative operands of inv_sqrt: the simplest such row is -0's.
+/// A subject that is wrong for negative operands of inv_sqrt: the simplest such row is that of -1.
 fn finds_simplest(subject: Subject) -> io::Result<bool> {
     let is_wrong = |row: &Row| row.kind == Kind::InvSqrt && row.words[0] >> 31 == 1;
     let faulty = |rows: &[Row]| {
@@ -52,7 +52,7 @@ fn finds_simplest(subject: Subject) -> io::Result<bool> {
         return Ok(false);
     };
     let simple = simplify::simplified(last, &faulty)?;
-    Ok(all && simple.row == Row::new(Kind::InvSqrt, &[0x8000_0000]))
+    Ok(all && simple.row == Row::new(Kind::InvSqrt, &[0xbf80_0000]))
 }
 
 pub fn self_test(subject: Subject) -> io::Result<bool> {
