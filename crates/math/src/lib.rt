@@ -4,7 +4,8 @@ use model::Quaternion;
 use model::Row;
 ghost use mathlib.Core.Path.{_≡_};
 ghost use Rattle.model.specs.Numbers.{firstGuess, invSqrt};
-ghost use Rattle.model.specs.Rotations.{dot, scaled, secondWeight, weightedSum, normalised, lerpQuaternion, productRow, product, identityMatrix, quaternionToMatrix, matrixToQuaternion};
+ghost use Rattle.model.specs.Rotations.{quaternion, dot, scaled, secondWeight, weightedSum, lerpQuaternion, productRow, product, quaternionToMatrix, fromTrace, fromDiagonal, matrixToQuaternion};
+ghost use Rattle.math.specs.Scaling.{scaledByRoot};
 
 // The first guess of inv_sqrt: the pattern shifted right by one with its sign, subtracted from 5f3759df. The subtraction wraps.
 pub fn first_guess(bits: u32) -> u32
@@ -112,79 +113,89 @@ pub fn quaternion_to_matrix(q: Quaternion) -> Matrix4
     }
 }
 
-// What matrix_to_quaternion scales: t, whose inverse root is taken, and the four parts before it.
-struct Parts {
+// A quaternion that half the inverse root of t is yet to scale. matrix_to_quaternion takes that root once, after its tests.
+struct Unscaled {
     t: f32,
     q: Quaternion,
 }
 
-// By the trace, or by the diagonal entry that the tests pick. One inv_sqrt serves them all, after the tests.
-fn parts_of(m: Matrix4) -> Parts {
-    let p = m.r0;
-    let q = m.r1;
-    let s = m.r2;
-    let trace = p.c0 + q.c1 + s.c2;
-    if trace > 0.0 {
-        let t = trace + 1.0;
-        return Parts {
-            t,
-            q: Quaternion {
-                w: t,
-                x: q.c2 - s.c1,
-                y: s.c0 - p.c2,
-                z: p.c1 - q.c0,
-            },
-        };
-    }
-    if q.c1 > p.c0 {
-        if s.c2 > q.c1 {
-            return by2(p, q, s);
-        }
-        let t = (q.c1 - (s.c2 + p.c0)) + 1.0;
-        return Parts {
-            t,
-            q: Quaternion {
-                w: s.c0 - p.c2,
-                x: q.c0 + p.c1,
-                y: t,
-                z: q.c2 + s.c1,
-            },
-        };
-    }
-    if s.c2 > p.c0 {
-        return by2(p, q, s);
-    }
-    let t = (p.c0 - (q.c1 + s.c2)) + 1.0;
-    Parts {
-        t,
-        q: Quaternion {
-            w: q.c2 - s.c1,
-            x: t,
-            y: p.c1 + q.c0,
-            z: p.c2 + s.c0,
-        },
-    }
+fn from_trace(m: Matrix4, trace: f32) -> Unscaled
+    ensures { λ r. ⌜ scaledByRoot r ≡ fromTrace m trace ⌝ }
+{
+    let t = trace + 1.0;
+    let q = Quaternion {
+        w: t,
+        x: m.r1.c2 - m.r2.c1,
+        y: m.r2.c0 - m.r0.c2,
+        z: m.r0.c1 - m.r1.c0,
+    };
+    Unscaled { t, q }
 }
 
-fn by2(p: Row, q: Row, s: Row) -> Parts {
-    let t = (s.c2 - (p.c0 + q.c1)) + 1.0;
-    Parts {
-        t,
-        q: Quaternion {
-            w: p.c1 - q.c0,
-            x: s.c0 + p.c2,
-            y: s.c1 + q.c2,
-            z: t,
-        },
+// By diagonal entry 0. The Rust's i, j and k are written out for each of the three, so that no index is looked up.
+fn from_diagonal_0(m: Matrix4) -> Unscaled
+    ensures { λ r. ⌜ scaledByRoot r ≡ fromDiagonal m 0 1 2 (λ w qi qj qk. quaternion w qi qj qk) ⌝ }
+{
+    let t = (m.r0.c0 - (m.r1.c1 + m.r2.c2)) + 1.0;
+    let q = Quaternion {
+        w: m.r1.c2 - m.r2.c1,
+        x: t,
+        y: m.r0.c1 + m.r1.c0,
+        z: m.r0.c2 + m.r2.c0,
+    };
+    Unscaled { t, q }
+}
+
+fn from_diagonal_1(m: Matrix4) -> Unscaled
+    ensures { λ r. ⌜ scaledByRoot r ≡ fromDiagonal m 1 2 0 (λ w qi qj qk. quaternion w qk qi qj) ⌝ }
+{
+    let t = (m.r1.c1 - (m.r2.c2 + m.r0.c0)) + 1.0;
+    let q = Quaternion {
+        w: m.r2.c0 - m.r0.c2,
+        x: m.r1.c0 + m.r0.c1,
+        y: t,
+        z: m.r1.c2 + m.r2.c1,
+    };
+    Unscaled { t, q }
+}
+
+fn from_diagonal_2(m: Matrix4) -> Unscaled
+    ensures { λ r. ⌜ scaledByRoot r ≡ fromDiagonal m 2 0 1 (λ w qi qj qk. quaternion w qj qk qi) ⌝ }
+{
+    let t = (m.r2.c2 - (m.r0.c0 + m.r1.c1)) + 1.0;
+    let q = Quaternion {
+        w: m.r0.c1 - m.r1.c0,
+        x: m.r2.c0 + m.r0.c2,
+        y: m.r2.c1 + m.r1.c2,
+        z: t,
+    };
+    Unscaled { t, q }
+}
+
+fn unscaled_rotation(m: Matrix4) -> Unscaled
+    ensures { λ r. ⌜ scaledByRoot r ≡ matrixToQuaternion m ⌝ }
+{
+    let trace = m.r0.c0 + m.r1.c1 + m.r2.c2;
+    if trace > 0.0 {
+        return from_trace(m, trace);
     }
+    if m.r1.c1 > m.r0.c0 {
+        if m.r2.c2 > m.r1.c1 {
+            return from_diagonal_2(m);
+        }
+        return from_diagonal_1(m);
+    }
+    if m.r2.c2 > m.r0.c0 {
+        return from_diagonal_2(m);
+    }
+    from_diagonal_0(m)
 }
 
 pub fn matrix_to_quaternion(m: Matrix4) -> Quaternion
     ensures { λ r. ⌜ r ≡ matrixToQuaternion m ⌝ }
 {
-    let parts = parts_of(m);
-    let q = parts.q;
-    scaled(q, inv_sqrt(parts.t) * 0.5)
+    let u = unscaled_rotation(m);
+    scaled(u.q, inv_sqrt(u.t) * 0.5)
 }
 
 // A row of the product: the row a by each column of b.
@@ -203,14 +214,10 @@ pub fn product_row(a: Row, b: Matrix4) -> Row
 pub fn row_mat4_mul(a: Matrix4, b: Matrix4) -> Matrix4
     ensures { λ r. ⌜ r ≡ product a b ⌝ }
 {
-    let p = product_row(a.r0, b);
-    let q = product_row(a.r1, b);
-    let s = product_row(a.r2, b);
-    let t = product_row(a.r3, b);
     Matrix4 {
-        r0: p,
-        r1: q,
-        r2: s,
-        r3: t,
+        r0: product_row(a.r0, b),
+        r1: product_row(a.r1, b),
+        r2: product_row(a.r2, b),
+        r3: product_row(a.r3, b),
     }
 }

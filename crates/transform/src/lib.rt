@@ -52,14 +52,10 @@ fn lerp_vector(a: Vector3, b: Vector3, t: f32) -> Vector3
 pub fn lerp(p: Pose, q: Pose, t: f32) -> Pose
     ensures { λ r. ⌜ r ≡ lerpPose p q t ⌝ }
 {
-    let a = p.translation;
-    let b = q.translation;
-    let u = p.rotation;
-    let v = q.rotation;
     Pose {
-        translation: lerp_vector(a, b, t),
+        translation: lerp_vector(p.translation, q.translation, t),
         scale: lerp_float(p.scale, q.scale, t),
-        rotation: lerp_quaternion(u, v, t),
+        rotation: lerp_quaternion(p.rotation, q.rotation, t),
     }
 }
 
@@ -67,12 +63,10 @@ pub fn lerp(p: Pose, q: Pose, t: f32) -> Pose
 pub fn to_matrix(p: Pose) -> Matrix4
     ensures { λ r. ⌜ r ≡ toMatrix p ⌝ }
 {
-    let t = p.translation;
-    let q = p.rotation;
-    let mut m = quaternion_to_matrix(q);
-    m.r0.c3 = t.x;
-    m.r1.c3 = t.y;
-    m.r2.c3 = t.z;
+    let mut m = quaternion_to_matrix(p.rotation);
+    m.r0.c3 = p.translation.x;
+    m.r1.c3 = p.translation.y;
+    m.r2.c3 = p.translation.z;
     m
 }
 
@@ -80,14 +74,17 @@ pub fn to_matrix(p: Pose) -> Matrix4
 pub fn from_matrix(m: Matrix4) -> Pose
     ensures { λ r. ⌜ r ≡ fromMatrix m ⌝ }
 {
+    let rotation = matrix_to_quaternion(m);
+    let translation = Vector3 {
+        x: m.r0.c3,
+        y: m.r1.c3,
+        z: m.r2.c3,
+    };
+    let scale = 1.0;
     Pose {
-        translation: Vector3 {
-            x: m.r0.c3,
-            y: m.r1.c3,
-            z: m.r2.c3,
-        },
-        scale: 1.0,
-        rotation: matrix_to_quaternion(m),
+        translation,
+        scale,
+        rotation,
     }
 }
 

@@ -1,0 +1,11 @@
+-- `math::from_diagonal_0` meets its contract: the quaternion only moves the four parts. Assumes nothing.
+use mathlib.Core.Path.{refl}
+use Rattle.math.proofs.Laws.{from-diagonal}
+use Rattle.math.proofs.from_diagonal_0.Statement.{statement}
+use Rattle.math.proofs.from_diagonal_0.Tie as tie
+
+returns : tie.Need-returns
+returns c = from-diagonal _ _ _ _ _ (λ w qi qj qk s. refl)
+
+pub from-diagonal-0-spec : {M : Type 1} → statement M
+from-diagonal-0-spec = tie.close (tie.spec returns)
