@@ -1,1 +1,4 @@
 pub mod Patterns
+pub mod Rounding
+pub mod Narrowing
+pub mod Index

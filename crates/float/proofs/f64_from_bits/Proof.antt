@@ -1,21 +1,15 @@
--- `float::f64_from_bits` meets its contract: the test is `nanBits`, by one comparison. Assumes nothing.
+-- `float::f64_from_bits` meets its contract: the patterns above the infinity's are the NaNs. Assumes nothing.
 use borrow.Author.Needs.{needs}
-use mathlib.Core.Path.{sym, subst}
-use Prim.Native.Nat.{ℕ, _≤_, _<_}
-use lib.Bits.{and-mask}
-use lib.Ieee.{binary64, div, ofBits}
-use Rattle.float.proofs.Patterns.{above-is-nan, up-to-is-none}
+use lib.Ieee.{binary64}
+use Rattle.float.proofs.Patterns.{above-infinity, up-to-infinity}
 use Rattle.float.proofs.f64_from_bits.Statement.{statement}
 use Rattle.float.proofs.f64_from_bits.Tie as tie
-use Rattle.float.proofs.f64_from_bits.Reads as reads
-use Rattle.float.proofs.f64_from_bits.Lts as lts
 
 float-from-bits-result : tie.Need-float-from-bits-result
-float-from-bits-result c = up-to-is-none binary64 (c .before .args .b) (rw (and-mask (c .before .args .b) 63) at (c .if1 .left))
+float-from-bits-result c = up-to-infinity binary64 _ (c .if1 .left)
 
 returns : tie.Need-returns
-unfolding div ofBits
-returns c = sym (above-is-nan binary64 (c .before .args .b) (rw (and-mask (c .before .args .b) 63) at (c .if1 .taken)))
+returns c = above-infinity binary64 _ (c .if1 .taken)
 
 returns-2 : tie.Need-returns-2
 returns-2 c = search needs

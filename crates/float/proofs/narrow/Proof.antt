@@ -1,0 +1,59 @@
+-- `float::narrow` meets its contract: `narrow-bits`, with the sign by its test. Assumes nothing.
+use mathlib.Core.Path.{_≡_, sym, _∙_}
+use Prim.Native.Nat.{_+_, _^_, _≤_}
+use native.Mathlib.Omega.{arith}
+use native.Mathlib.Nat.{zero-add}
+use mathlib.Core.Bool.{cond}
+use lib.Dec.{leb}
+use lib.Ieee.{binary32, ofBits}
+use denote.Floats.{passes}
+use borrow.Author.Needs.{needs}
+use borrow.Author.Tests.{le-leb, lt-leb}
+use Rattle.model.specs.Numbers.{narrow}
+use Rattle.float.specs.Narrowing.{casePattern, narrowCase}
+use Rattle.float.proofs.Narrowing.{narrow-bits, pattern-le}
+use Rattle.float.proofs.narrow.Statement.{statement}
+use Rattle.float.proofs.narrow.Tie as tie
+
+bits : (c : tie.After-case-pattern) → narrow (c .before .before .before .args .x) ≡ ofBits binary32 (cond (leb (2 ^ 63) (c .before .before .f64-to-bits .result)) 0x8000_0000 0 + c .case-pattern .result)
+bits c = cc (narrow-bits (c .before .before .before .args .x) (passes _ (c .before .before .before .good .0 .1)))
+
+f64-to-bits-requires : tie.Need-f64-to-bits-requires
+f64-to-bits-requires c κs = search needs
+
+narrow-case-requires : tie.Need-narrow-case-requires
+narrow-case-requires c κs = search needs
+
+case-pattern-requires : tie.Need-case-pattern-requires
+case-pattern-requires c κs = search needs
+
+f32-from-bits-requires : tie.Need-f32-from-bits-requires
+f32-from-bits-requires c κs = search needs
+
+add-f32-from-bits : tie.Need-add-f32-from-bits
+add-f32-from-bits c =
+    let p = c .before in
+    let e : p .case-pattern .result ≡ casePattern (narrowCase (p .before .before .f64-to-bits .result)) = cc in
+    record { fits = omega (arith, pattern-le (p .before .before .f64-to-bits .result)) }
+
+f32-from-bits-requires-2 : tie.Need-f32-from-bits-requires-2
+f32-from-bits-requires-2 c κs = search needs
+
+returns : tie.Need-returns
+returns c = c .f32-from-bits .ensures ∙ sym (rw (lt-leb (2 ^ 63) _ (c .before .if1 .taken), zero-add) at (bits (c .before .before)))
+
+returns-2 : tie.Need-returns-2
+returns-2 c = c .f32-from-bits2 .ensures ∙ sym (rw (le-leb (2 ^ 63) _ (c .before .if1 .left)) at (bits (c .before .before)))
+
+pub narrow-spec : {M : Type 1} → statement M
+narrow-spec =
+    tie.close
+    (tie.spec
+    f64-to-bits-requires
+    narrow-case-requires
+    case-pattern-requires
+    f32-from-bits-requires
+    add-f32-from-bits
+    f32-from-bits-requires-2
+    returns
+    returns-2)
