@@ -4,9 +4,9 @@ use std::env;
 use std::fs;
 use std::path::{Path, PathBuf};
 
-const VARIABLE: &'static str = "SKELETAL_ANIMATION_SRC";
-const BESIDE: &'static str = "../shared/docs/src";
-const MODULES: [&'static str; 6] = [
+const VARIABLE: &str = "SKELETAL_ANIMATION_SRC";
+const BESIDE: &str = "../shared/docs/src";
+const MODULES: [&str; 6] = [
     "animation",
     "blend_tree",
     "controller",
@@ -31,8 +31,9 @@ fn main() {
     println!("cargo:rerun-if-changed=build.rs");
     println!("cargo:rerun-if-env-changed={}", VARIABLE);
     let repository = Path::new(&env::var("CARGO_MANIFEST_DIR").unwrap()).join("../..");
-    let folder = match env::var_os(VARIABLE) {
-        Some(named) => repository.join(named),
+    let named = env::var_os(VARIABLE).filter(|name| !name.is_empty());
+    let folder = match named {
+        Some(name) => repository.join(name),
         None => repository.join(BESIDE),
     };
     let sources = sources_in(&folder).unwrap_or_else(|| {

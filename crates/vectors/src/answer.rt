@@ -76,10 +76,30 @@ fn row(c0: f32, c1: f32, c2: f32, c3: f32) -> Row {
 }
 
 fn matrix_at(words: &[u32]) -> Matrix4 {
-    let r0 = row(float_at(words, 0), float_at(words, 1), float_at(words, 2), float_at(words, 3));
-    let r1 = row(float_at(words, 4), float_at(words, 5), float_at(words, 6), float_at(words, 7));
-    let r2 = row(float_at(words, 8), float_at(words, 9), float_at(words, 10), float_at(words, 11));
-    let r3 = row(float_at(words, 12), float_at(words, 13), float_at(words, 14), float_at(words, 15));
+    let r0 = row(
+        float_at(words, 0),
+        float_at(words, 1),
+        float_at(words, 2),
+        float_at(words, 3),
+    );
+    let r1 = row(
+        float_at(words, 4),
+        float_at(words, 5),
+        float_at(words, 6),
+        float_at(words, 7),
+    );
+    let r2 = row(
+        float_at(words, 8),
+        float_at(words, 9),
+        float_at(words, 10),
+        float_at(words, 11),
+    );
+    let r3 = row(
+        float_at(words, 12),
+        float_at(words, 13),
+        float_at(words, 14),
+        float_at(words, 15),
+    );
     Matrix4 { r0, r1, r2, r3 }
 }
 
@@ -148,11 +168,19 @@ fn no_answer() -> Answer {
 fn rotation_answer(letter: u8, words: [u32; 32]) -> Answer {
     match letter {
         b'i' => float_answer(math::inv_sqrt(float_at(&words, 0))),
-        b'l' => quaternion_answer(math::lerp_quaternion(quaternion_at(&words), quaternion_at(&words[4..]), float_at(&words, 8))),
+        b'l' => quaternion_answer(math::lerp_quaternion(
+            quaternion_at(&words),
+            quaternion_at(&words[4..]),
+            float_at(&words, 8),
+        )),
         b'm' => matrix_answer(math::quaternion_to_matrix(quaternion_at(&words))),
         b'q' => quaternion_answer(math::matrix_to_quaternion(matrix_at(&words))),
         b'p' => matrix_answer(math::row_mat4_mul(matrix_at(&words), matrix_at(&words[16..]))),
-        b'L' => pose_answer(transform::lerp(pose_at(&words), pose_at(&words[8..]), float_at(&words, 16))),
+        b'L' => pose_answer(transform::lerp(
+            pose_at(&words),
+            pose_at(&words[8..]),
+            float_at(&words, 16),
+        )),
         b'c' => pose_answer(transform::concat(pose_at(&words), pose_at(&words[8..]))),
         b'M' => matrix_answer(transform::to_matrix(pose_at(&words))),
         b'Q' => pose_answer(transform::from_matrix(matrix_at(&words))),

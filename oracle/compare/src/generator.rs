@@ -5,49 +5,55 @@ use skeletal_animation::math::quaternion_to_matrix;
 
 /// Bit patterns at which some function here changes its course.
 pub const SPECIAL: [u32; 40] = [
+    // zeros
     0x0000_0000,
-    0x8000_0000, // zeros
+    0x8000_0000,
+    // subnormals and the least normals
     0x0000_0001,
     0x8000_0001,
     0x007f_ffff,
-    0x807f_ffff, // subnormals
+    0x807f_ffff,
     0x0080_0000,
-    0x8080_0000, // least normals
+    0x8080_0000,
+    // a half, one, two and between
+    0x3eff_ffff,
+    0x3f00_0000,
+    0xbf00_0000,
+    0x3f7f_ffff,
+    0xbf7f_ffff,
     0x3f80_0000,
     0xbf80_0000,
     0x3f80_0001,
-    0x3f7f_ffff, // around one
-    0x3f00_0000,
-    0xbf00_0000,
-    0x3eff_ffff,
-    0xbf7f_ffff,
-    0xbf80_0001, // around a half
+    0xbf80_0001,
+    0x3fc0_0000,
+    0xbfc0_0000,
     0x4000_0000,
     0xc000_0000,
     0x4040_0000,
-    0x3fc0_0000,
-    0xbfc0_0000,
+    // 2^24, from which every float is whole; 2^63 and 2^64
     0x4b7f_ffff,
     0x4b80_0000,
     0x4b80_0001,
-    0xcb80_0000, // 2^24
+    0xcb80_0000,
     0x5eff_ffff,
     0x5f00_0000,
     0x5f7f_ffff,
     0x5f80_0000,
-    0xdf80_0000, // 2^63, 2^64
+    0xdf80_0000,
+    // the greatest floats, infinities and NaNs
     0x7f7f_ffff,
     0xff7f_ffff,
     0x7f80_0000,
-    0xff80_0000, // greatest, infinities
+    0xff80_0000,
+    0x7f80_0001,
     0x7fc0_0000,
     0xffc0_0000,
-    0x7f80_0001, // NaN
     0x7fff_ffff,
-    0xffff_ffff, // NaN, and both ends of the patterns
+    0xffff_ffff,
 ];
 
-/// Where the subtraction of inv_sqrt begins and ends to wrap.
+/// The ends of the patterns at which inv_sqrt's subtraction wraps, 80000000 to be6eb3bf, with the
+/// first pattern after them and the last ones of both signs.
 pub const WRAP_LIMITS: [u32; 5] = [
     0x8000_0000,
     0xbe6e_b3bf,
@@ -224,7 +230,7 @@ impl Generator {
         words
     }
 
-    /// A matrix whose diagonal entries, or they and the trace's test, are equal or a step apart.
+    /// A matrix whose diagonal entries are equal, a step apart or each other's negatives.
     fn tied_diagonal(&mut self) -> Vec<u32> {
         let mut words = self.words(Style::Ordinary, 16);
         let entry = self.ordinary();

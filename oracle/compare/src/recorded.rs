@@ -2,6 +2,7 @@
 
 use crate::generator::{midpoint, Generator, SPECIAL, WRAP_LIMITS};
 use crate::row::{Kind, Row};
+use std::collections::BTreeSet;
 
 const SEED: u64 = 0x5f37_59df;
 
@@ -43,29 +44,18 @@ fn neighbours(word: u32) -> [u32; 5] {
     [-2, -1, 0, 1, 2].map(|step| word.wrapping_add_signed(step))
 }
 
-/// The kinds of one operand, at the special patterns, and inv_sqrt where it begins and ends to wrap.
+/// The kinds of one operand, around the special patterns and the limits of inv_sqrt's wrapping.
 fn floats(rows: &mut Vec<Row>) {
-    for limit in WRAP_LIMITS {
-        for word in neighbours(limit) {
-            rows.push(Row::new(Kind::InvSqrt, &[word]));
-        }
-    }
-    for special in SPECIAL {
-        for word in neighbours(special) {
-            for kind in [Kind::InvSqrt, Kind::Widen] {
-                rows.push(Row::new(kind, &[word]));
-            }
-        }
-    }
-    for kind in [Kind::FloorIndex, Kind::CeilingIndex] {
-        for special in SPECIAL {
-            let around = [special.wrapping_sub(1), special, special.wrapping_add(1)];
-            rows.extend(around.map(|word| Row::new(kind, &[word])));
-        }
-        for halves in -7..8 {
-            let x = halves as f32 / 2.0;
-            rows.push(Row::new(kind, &[x.to_bits()]));
-        }
+    let chosen = SPECIAL.into_iter().chain(WRAP_LIMITS);
+    let mut words: BTreeSet<u32> = chosen.flat_map(neighbours).collect();
+    words.extend((-7..8).map(|halves| (halves as f32 / 2.0).to_bits()));
+    for kind in [
+        Kind::InvSqrt,
+        Kind::Widen,
+        Kind::FloorIndex,
+        Kind::CeilingIndex,
+    ] {
+        rows.extend(words.iter().map(|&word| Row::new(kind, &[word])));
     }
 }
 
@@ -205,5 +195,44 @@ fn poses(rows: &mut Vec<Row>, generator: &mut Generator) {
                 rows.push(Row::new(kind, &words));
             }
         }
+    }
+}
+
+#[cfg(test)]
+mod tests {
+    use super::*;
+
+    fn floats_of(kind: Kind) -> Vec<Vec<f32>> {
+        let rows = rows().into_iter().filter(|row| row.kind == kind);
+        rows.map(|row| row.words.into_iter().map(f32::from_bits).collect())
+            .collect()
+    }
+
+    /// Every order of the three diagonal entries, with and without ties, on each side of the trace's test.
+    #[test]
+    fn has_each_diagonal() {
+        let mut seen = BTreeSet::new();
+        for m in floats_of(Kind::MatrixToQuaternion) {
+            let [a, b, c] = [m[0], m[5], m[10]];
+            if let (Some(ab), Some(ac), Some(bc)) =
+                (a.partial_cmp(&b), a.partial_cmp(&c), b.partial_cmp(&c))
+            {
+                seen.insert((a + b + c > 0.0, ab, ac, bc));
+            }
+        }
+        assert_eq!(seen.len(), 2 * 13);
+    }
+
+    #[test]
+    fn has_each_dot_product() {
+        let dots = floats_of(Kind::LerpQuaternion)
+            .into_iter()
+            .map(|q| q[0] * q[4] + q[1] * q[5] + q[2] * q[6] + q[3] * q[7]);
+        let dots: Vec<f32> = dots.collect();
+        assert!(dots.iter().any(|dot| dot.to_bits() == 0));
+        assert!(dots.iter().any(|dot| dot.to_bits() == 0x8000_0000));
+        assert!(dots.iter().any(|dot| dot.is_nan()));
+        assert!(dots.iter().any(|&dot| dot > 0.0));
+        assert!(dots.iter().any(|&dot| dot < 0.0));
     }
 }

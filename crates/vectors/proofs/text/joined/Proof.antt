@@ -1,14 +1,11 @@
+-- `vectors::text::joined` is safe and ends, and its line has 144 bytes: each word's part comes back as long as it was lent. Assumes nothing.
 use borrow.Author.Needs.{needs}
-use native.Mathlib.Omega.{arith}
 use Prim.Native.Nat.{ℕ, _≤_, _+_, _*_, _-_}
 use lib.ListN.{length}
 use mathlib.Core.Path.{_≡_, sym, _∙_}
 use borrow.Rule.Slice.PartMut.{same-len-mid}
 use Rattle.vectors.proofs.text.joined.Statement.{statement}
 use Rattle.vectors.proofs.text.joined.Tie as tie
-use Rattle.vectors.proofs.text.joined.Reads as reads
-use Rattle.vectors.proofs.text.joined.Lts as lts
-use Rattle.vectors.proofs.text.put_word.Reads as put-word-reads
 
 abbrev Inv-loop : tie.InvT-loop
 Inv-loop words line₀ i₀ line i = (i ≤ 16) × (144 ≡ length line)
@@ -16,62 +13,48 @@ Inv-loop words line₀ i₀ line i = (i ≤ 16) × (144 ≡ length line)
 abbrev μ-loop : tie.MeasureT-loop
 μ-loop words line₀ i₀ line i = 16 - i
 
--- src/text.rt:82:5
 loop-holds : tie.Need-loop-holds Inv-loop μ-loop
 loop-holds c = search needs
 
--- src/text.rt:83:18
 mul-put-word : tie.Need-mul-put-word Inv-loop μ-loop
 mul-put-word c = search needs
 
--- src/text.rt:83:18
 array-read-put-word : tie.Need-array-read-put-word Inv-loop μ-loop
 array-read-put-word c = search needs
 
--- src/text.rt:83:38
 mul-line : tie.Need-mul-line Inv-loop μ-loop
 mul-line c = search needs
 
--- src/text.rt:83:45
 mul-put-word-2 : tie.Need-mul-put-word-2 Inv-loop μ-loop
 mul-put-word-2 c = search needs
 
--- src/text.rt:83:45
 add-put-word : tie.Need-add-put-word Inv-loop μ-loop
 add-put-word c = search needs
 
--- src/text.rt:83:28
 sub-put-word : tie.Need-sub-put-word Inv-loop μ-loop
 sub-put-word c = search needs
 
--- src/text.rt:83:28
 part-line-start : tie.Need-part-line-start Inv-loop μ-loop
 part-line-start c = search needs
 
--- src/text.rt:83:28
 part-line-end : tie.Need-part-line-end Inv-loop μ-loop
 part-line-end c = search needs
 
--- src/text.rt:83:9
 put-word-requires : tie.Need-put-word-requires Inv-loop μ-loop
 put-word-requires c κs = search needs
 
--- src/text.rt:84:9
 add-i : tie.Need-add-i Inv-loop μ-loop
 add-i c = search needs
 
--- src/text.rt:82:5
 loop-less : tie.Need-loop-less Inv-loop μ-loop
 loop-less c = search needs
 
--- src/text.rt:82:5
 loop-again : tie.Need-loop-again Inv-loop μ-loop
 loop-again c =
     let l = c .before .before .before .before .loop in
     let at = 9 * l .i in
     (search needs, l .inv .1 ∙ sym (same-len-mid {X = ℕ} at (at + 8 - at) (l .line) (c .before .put-word .last .1 .0) (c .before .put-word .kept .1 .0)))
 
--- src/text.rt:77:1
 returns : tie.Need-returns Inv-loop μ-loop
 returns c = search needs
 

@@ -1,3 +1,4 @@
+-- `vectors::text::print_words` is safe: the line's 144 bytes hold what is printed. Assumes nothing.
 use native.Mathlib.Omega.{arith}
 use Prim.Native.Nat.{_*_, _-_}
 use mathlib.Core.Path.{sym}
@@ -6,56 +7,41 @@ use lib.Seq.{length-take-le}
 use borrow.Author.Needs.{needs}
 use Rattle.vectors.proofs.text.print_words.Statement.{statement}
 use Rattle.vectors.proofs.text.print_words.Tie as tie
-use Rattle.vectors.proofs.text.print_words.Reads as reads
-use Rattle.vectors.proofs.text.print_words.Lts as lts
-use Rattle.io.proofs.write_all.Reads as write-all-reads
-use Rattle.vectors.proofs.text.joined.Reads as joined-reads
 
--- src/text.rt:92:9
 returns : tie.Need-returns
 returns c = search needs
 
--- src/text.rt:95:9
 returns-2 : tie.Need-returns-2
 returns-2 c = search needs
 
--- src/text.rt:97:20
 joined-requires : tie.Need-joined-requires
 joined-requires c κs = search needs
 
--- src/text.rt:98:10
 mul-line : tie.Need-mul-line
 mul-line c = search needs
 
--- src/text.rt:98:10
 sub-line : tie.Need-sub-line
 sub-line c = search needs
 
--- src/text.rt:98:5
 array-write-line : tie.Need-array-write-line
 array-write-line c = search needs
 
--- src/text.rt:99:42
 mul-line-2 : tie.Need-mul-line-2
 mul-line-2 c = search needs
 
--- src/text.rt:99:34
 array-share-prefix-line : tie.Need-array-share-prefix-line
 array-share-prefix-line c =
     let n = c .before .before .before .args .count in
     omega (arith, length-set (c .joined .result) (9 * n - 1) 10, c .joined .ensures)
 
--- src/text.rt:99:34
 slice-aggregate-write-all : tie.Need-slice-aggregate-write-all
 slice-aggregate-write-all c =
     let n = c .before .before .before .before .args .count in
     sym (length-take-le _ _ (omega (arith, length-set (c .before .joined .result) (9 * n - 1) 10, c .before .joined .ensures)))
 
--- src/text.rt:99:5
 write-all-requires : tie.Need-write-all-requires
 write-all-requires c κs = search needs
 
--- src/text.rt:90:1
 returns-3 : tie.Need-returns-3
 returns-3 c = search needs
 
