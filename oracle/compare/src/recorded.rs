@@ -148,6 +148,7 @@ fn quaternions(rows: &mut Vec<Row>, generator: &mut Generator) {
             rows.push(Row::new(Kind::LerpQuaternion, &words));
         }
     }
+    rows.extend((0..64).filter_map(cancelling));
     for special in SPECIAL {
         for place in 0..4 {
             let mut words = [(); 4].map(|_| generator.ordinary());
@@ -155,6 +156,20 @@ fn quaternions(rows: &mut Vec<Row>, generator: &mut Generator) {
             rows.push(Row::new(Kind::QuaternionToMatrix, &words));
         }
     }
+}
+
+/// A pair whose products are 1, -1 and 2^-24 at three places: the sign of their sum is that of the
+/// order in which they are added. None where two of the places are the same.
+fn cancelling(places: usize) -> Option<Row> {
+    let [one, negated, small] = [places % 4, places / 4 % 4, places / 16];
+    if one == negated || one == small || negated == small {
+        return None;
+    }
+    let mut words = [0.0, 0.0, 0.0, 0.0, 1.0, 1.0, 1.0, 1.0, 0.5];
+    words[one] = 1.0;
+    words[negated] = -1.0;
+    words[small] = 2f32.powi(-24);
+    Some(Row::new(Kind::LerpQuaternion, &words.map(f32::to_bits)))
 }
 
 fn ordinary_words(count: usize, generator: &mut Generator) -> Vec<u32> {
