@@ -6,7 +6,6 @@ use math::quaternion_to_matrix;
 use model::Matrix4;
 use model::Pose;
 use model::Quaternion;
-use model::Row;
 use model::Vector3;
 ghost use mathlib.Core.Path.{_≡_};
 ghost use Rattle.model.specs.Pose.{identityPose, lerpFloat, lerpVector, toMatrix, fromMatrix};

@@ -11,9 +11,9 @@ returns : tie.Need-returns
 unfolding firstGuess
 returns c =
     let bits = c .before .before .args .bits in
-    ⊎-elim (λ w. rw (lt-leb 0x8000_0000 bits (search needs)) (omega (arith, c .wrapping-sub-u32 .ensures)))
-    (λ w. rw (le-leb 0x8000_0000 bits (search needs)) (omega (arith, c .wrapping-sub-u32 .ensures)))
+    ⊎-elim (λ w. rw (lt-leb 0x8000_0000 bits (search needs)) (omega arith))
+    (λ w. rw (le-leb 0x8000_0000 bits (search needs)) (omega arith))
     (c .before .if1 .came)
 
 pub first-guess-spec : {M : Type 1} → statement M
-first-guess-spec = tie.close (tie.spec (λ c. search needs) (λ c κs. search needs) returns)
+first-guess-spec = tie.close (tie.spec (search needs) (search needs) returns)

@@ -9,4 +9,4 @@ unfolding invSqrt
 returns c = cc
 
 pub inv-sqrt-spec : {M : Type 1} → statement M
-inv-sqrt-spec = tie.close (tie.spec (λ c κs. search needs) (λ c κs. search needs) (λ c κs. search needs) returns)
+inv-sqrt-spec = tie.close (tie.spec (search needs) (search needs) (search needs) returns)

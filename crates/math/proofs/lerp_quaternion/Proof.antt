@@ -9,4 +9,4 @@ unfolding normalised lerpQuaternion
 returns c = rw (c .scaled .ensures, c .before .inv-sqrt .ensures, c .before .before .dot2 .ensures, c .before .before .before .weighted-sum .ensures, c .before .before .before .before .second-weight .ensures, c .before .before .before .before .before .dot .ensures)
 
 pub lerp-quaternion-spec : {M : Type 1} → statement M
-lerp-quaternion-spec = tie.close (tie.spec (λ c κs. search needs) (λ c κs. search needs) (λ c κs. search needs) (λ c κs. search needs) (λ c κs. search needs) (λ c κs. search needs) returns)
+lerp-quaternion-spec = tie.close (tie.spec (search needs) (search needs) (search needs) (search needs) (search needs) (search needs) returns)

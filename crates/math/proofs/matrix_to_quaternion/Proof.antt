@@ -7,4 +7,4 @@ returns : tie.Need-returns
 returns c = cc
 
 pub matrix-to-quaternion-spec : {M : Type 1} → statement M
-matrix-to-quaternion-spec = tie.close (tie.spec (λ c κs. search needs) (λ c κs. search needs) (λ c κs. search needs) returns)
+matrix-to-quaternion-spec = tie.close (tie.spec (search needs) (search needs) (search needs) returns)

@@ -9,4 +9,4 @@ unfolding product
 returns c = cc
 
 pub row-mat4-mul-spec : {M : Type 1} → statement M
-row-mat4-mul-spec = tie.close (tie.spec (λ c κs. search needs) (λ c κs. search needs) (λ c κs. search needs) (λ c κs. search needs) returns)
+row-mat4-mul-spec = tie.close (tie.spec (search needs) (search needs) (search needs) (search needs) returns)

@@ -26,15 +26,4 @@ returns-5 c = rw (c .before .before .before .before .before .if1 .left, c .befor
 
 pub unscaled-rotation-spec : {M : Type 1} → statement M
 unscaled-rotation-spec =
-    tie.close
-    (tie.spec
-    (λ c κs. search needs)
-    returns
-    (λ c κs. search needs)
-    returns-2
-    (λ c κs. search needs)
-    returns-3
-    (λ c κs. search needs)
-    returns-4
-    (λ c κs. search needs)
-    returns-5)
+    tie.close (tie.spec (search needs) returns (search needs) returns-2 (search needs) returns-3 (search needs) returns-4 (search needs) returns-5)

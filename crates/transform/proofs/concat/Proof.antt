@@ -1,4 +1,4 @@
--- `transform::concat` meets its contract: no function of the product reads its last row. Assumes nothing.
+-- `transform::concat` meets its contract: it leaves out the last row of the product, which `fromMatrix` does not read. Assumes nothing.
 use borrow.Author.Needs.{needs}
 use mathlib.Core.Path.{_≡_, refl, _∙_}
 use Rattle.model.specs.declared.Row.{Row}
@@ -20,12 +20,4 @@ returns c =
 
 pub concat-spec : {M : Type 1} → statement M
 concat-spec =
-    tie.close
-    (tie.spec
-    (λ c κs. search needs)
-    (λ c κs. search needs)
-    (λ c κs. search needs)
-    (λ c κs. search needs)
-    (λ c κs. search needs)
-    (λ c κs. search needs)
-    returns)
+    tie.close (tie.spec (search needs) (search needs) (search needs) (search needs) (search needs) (search needs) returns)

@@ -9,4 +9,4 @@ unfolding fromMatrix
 returns c = cc
 
 pub from-matrix-spec : {M : Type 1} → statement M
-from-matrix-spec = tie.close (tie.spec (λ c κs. search needs) returns)
+from-matrix-spec = tie.close (tie.spec (search needs) returns)

@@ -9,4 +9,4 @@ unfolding lerp
 returns c = cc
 
 pub lerp-spec : {M : Type 1} → statement M
-lerp-spec = tie.close (tie.spec (λ c κs. search needs) (λ c κs. search needs) (λ c κs. search needs) returns)
+lerp-spec = tie.close (tie.spec (search needs) (search needs) (search needs) returns)

@@ -7,4 +7,4 @@ returns : tie.Need-returns
 returns c = cc
 
 pub lerp-vector-spec : {M : Type 1} → statement M
-lerp-vector-spec = tie.close (tie.spec (λ c κs. search needs) (λ c κs. search needs) (λ c κs. search needs) returns)
+lerp-vector-spec = tie.close (tie.spec (search needs) (search needs) (search needs) returns)

@@ -9,4 +9,4 @@ unfolding toMatrix
 returns c = cc
 
 pub to-matrix-spec : {M : Type 1} → statement M
-to-matrix-spec = tie.close (tie.spec (λ c κs. search needs) returns)
+to-matrix-spec = tie.close (tie.spec (search needs) returns)
