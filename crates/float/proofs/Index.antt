@@ -1,11 +1,11 @@
 -- A float as an index: what the tests of `floor_index` and `ceiling_index` tell. And an index of 25 digits or more as a float. Assumes nothing.
-use mathlib.Core.Path.{_≡_, refl, sym, ap, _∙_, subst}
-use mathlib.Core.Logic.{inr}
+use mathlib.Core.Path.{_≡_, refl, sym, _∙_, subst}
+use mathlib.Core.Logic.{inl, inr}
 use Prim.Native.Nat.{ℕ, zero, suc, _+_, _-_, _*_, _/_, _%_, _^_, _≤_, _<_, min, compare·suc-zero}
 use native.Mathlib.Nat.{zero-add, add-zero, mul-one, one-mul, mul-right-comm, mul-le-mul-right, mul-lt-mul-of-pos-right, mul-div-cancel, mod-one, div-add-mod', le-div-iff-mul-le, div-lt-iff-lt-mul, lt-of-lt-of-le, lt-of-not-le, not-le-of-lt, min-eq-left, le-of-lt, div-le-self}
 use native.Mathlib.Omega.{arith}
-use mathlib.Core.Bool.{Bool, true, false, not, _&&_, cond}
-use lib.Dec.{T, leb, ltb, eqb, lit<, lit≤, ltb→lt, nltb→le}
+use mathlib.Core.Bool.{Bool, true, false, _&&_, cond}
+use lib.Dec.{T, leb, ltb, eqb, lit<, lit≤, ltb→lt}
 use borrow.Author.Tests.{ltb-true, ltb-false, lt-ltb, le-ltb}
 use lib.IntN.{ℤ, pos, negsuc}
 use lib.Pow.{pow-add, pow-pos, pow-mono, shr-lt}
@@ -16,11 +16,13 @@ use lib.Ieee.Exact.{HasValue, odd-sign}
 use lib.Ieee.Back.{round-whole}
 use lib.Ieee.Nearest.{closest}
 use Rattle.model.specs.Numbers.{whole, carry, floor, ceiling, floorIndex, ceilingIndex, indexFloat}
-use Rattle.float.proofs.Rounding.{closest-le, round-bits}
+use Rattle.float.proofs.Rounding.{le-or-lt, closest-le, round-bits}
 
+-- the last index
 abbrev most : ℕ
 most = 0xffff_ffff_ffff_ffff
 
+-- a whole number's index: 0 with a sign, and no more than the last
 whole-index : (s : Bool) (n : ℕ) → toUnsigned 64 (whole s n) ≡ cond s 0 (min n most)
 unfolding whole toUnsigned
 whole-index s n = go (odd (size n) s n 0 0) (odd-sign (size n) s n 0 0)
@@ -39,7 +41,7 @@ from-power : (m : ℕ) (e : ℤ) (j : ℕ) → lt (fin false m e) (fin false 1 (
 unfolding lt
 from-power m e j h = le-div-iff-mul-le (down-pos e) .1 (simp (mul-one, one-mul) at (ltb-false (m * up e * 1) (1 * 2 ^ j * down e) h))
 
--- ---- `floor_index`: an index is cut off toward zero, which is the floor from 0 on
+-- ---- `floor_index`: truncation toward zero is the floor from 0 on, and below both have the index 0
 
 pub floor-is : (x : Float) → floorIndex x ≡ toUnsigned 64 x
 unfolding floorIndex floor toUnsigned
@@ -68,7 +70,7 @@ index-high (fin false m e) h k = let l = from-power m e 64 k in omega arith
 
 -- ---- `ceiling_index`
 
--- below 2 ^ 24 the format counts the whole numbers
+-- below 2 ^ 24 the whole part is a float itself
 pub small-index : (x : Float) → lt x (fin false 1 (pos 24)) ≡ true → toUnsigned 64 x ≤ 2 ^ 24
 unfolding lt toUnsigned
 small-index nan h = lit≤ tt
@@ -78,11 +80,10 @@ small-index (fin true m e) h = lit≤ tt
 small-index (fin false m e) h = let l = below-power m e 24 h in omega arith
 
 scaled : (a b c : ℕ) → 0 < c → ltb (a * c) (b * c) ≡ ltb a b
-scaled a b c p = go (ltb a b) (ltb→lt a b) (nltb→le a b)
-  where
-    go : (t : Bool) → (T t → a < b) → (T (not t) → b ≤ a) → ltb (a * c) (b * c) ≡ t
-    go true h n = lt-ltb (a * c) (b * c) (mul-lt-mul-of-pos-right (h tt) p)
-    go false h n = le-ltb (a * c) (b * c) (mul-le-mul-right c (n tt))
+scaled a b c p = elim (le-or-lt b a) [
+  | inl h ↦ rw (le-ltb a b h, le-ltb (a * c) (b * c) (mul-le-mul-right c h))
+  | inr h ↦ rw (lt-ltb a b h, lt-ltb (a * c) (b * c) (mul-lt-mul-of-pos-right h p))
+]
 
 -- a whole number against a fraction
 whole-lt : (y : Float) (m : ℕ) (e : ℤ) (n : ℕ) → HasValue y false n 1 → lt y (fin false m e) ≡ ltb (n * down e) (m * up e)
@@ -100,6 +101,7 @@ carry-is a b = go (a % b) (div-add-mod' a b)
     go zero e = rw (le-ltb (a / b * b) a (omega arith))
     go (suc r) e = rw (compare·suc-zero r, lt-ltb (a / b * b) a (omega arith))
 
+-- below 2 ^ 24: one more than the floor's where the floor is below x
 pub ceiling-small : (x : Float) → lt x (fin false 1 (pos 24)) ≡ true → ceilingIndex x ≡ toUnsigned 64 x + cond (lt (ofInt binary32 (pos (toUnsigned 64 x))) x) 1 0
 unfolding lt toUnsigned ofInt ceilingIndex ceiling
 ceiling-small nan h = cc
@@ -137,30 +139,30 @@ ceiling-large (fin false m (negsuc k)) f h = omega (arith, from-power m (negsuc 
 
 -- ---- `index_to_float`
 
--- all but the 24 leading digits go
-abbrev pub gone : ℕ → ℕ
-gone n = 40 - leadingZeros 64 n
+-- how many digits go, so that the 24 leading ones are left
+abbrev pub shift : ℕ → ℕ
+shift n = 40 - leadingZeros 64 n
 
 pub record Leading (n : ℕ) : Type 0 where
   pub few : leadingZeros 64 n < 40
-  pub least : 2 ^ 23 ≤ n / 2 ^ gone n
-  pub below : n / 2 ^ gone n < 2 ^ 24
+  pub least : 2 ^ 23 ≤ n / 2 ^ shift n
+  pub below : n / 2 ^ shift n < 2 ^ 24
 
 pub leading : (n : ℕ) → 2 ^ 24 ≤ n → n < 2 ^ 64 → Leading n
 leading n h l =
     let t = leading-top 64 n (omega arith) l in
     let j = t .0 in
     let big : 24 < suc j = lt-of-not-le (λ (g : suc j ≤ 24). not-le-of-lt (lt-of-lt-of-le (t .3) (pow-mono g)) h) in
-    let lo : 2 ^ (23 + gone n) ≤ n = subst (λ (i : ℕ). 2 ^ i ≤ n) (omega (arith, t .1)) (t .2) in
-    let hi : n < 2 ^ (24 + gone n) = subst (λ (i : ℕ). n < 2 ^ i) (omega (arith, t .1)) (t .3) in
-    record { few = omega (arith, t .1); least = le-div-iff-mul-le (pow-pos (gone n)) .1 (rw (pow-add 2 23 (gone n)) at lo); below = shr-lt 24 (gone n) hi }
+    let lo : 2 ^ (23 + shift n) ≤ n = subst (λ (i : ℕ). 2 ^ i ≤ n) (omega (arith, t .1)) (t .2) in
+    let hi : n < 2 ^ (24 + shift n) = subst (λ (i : ℕ). n < 2 ^ i) (omega (arith, t .1)) (t .3) in
+    record { few = omega (arith, t .1); least = le-div-iff-mul-le (pow-pos (shift n)) .1 (rw (pow-add 2 23 (shift n)) at lo); below = shr-lt 24 (shift n) hi }
 
 -- the pattern is one of 32 bits
-pub index-pattern-lt : (n : ℕ) → Leading n → (149 + gone n) * 0x80_0000 + closest n (2 ^ gone n) < 0x7f80_0000
-index-pattern-lt n d = let c = closest-le n (2 ^ gone n) in omega arith
+pub index-pattern-lt : (n : ℕ) → Leading n → (149 + shift n) * 0x80_0000 + closest n (2 ^ shift n) < 0x7f80_0000
+index-pattern-lt n d = let c = closest-le n (2 ^ shift n) in omega arith
 
-pub index-bits : (n : ℕ) → Leading n → indexFloat n ≡ ofBits binary32 ((149 + gone n) * 0x80_0000 + closest n (2 ^ gone n))
+pub index-bits : (n : ℕ) → Leading n → indexFloat n ≡ ofBits binary32 ((149 + shift n) * 0x80_0000 + closest n (2 ^ shift n))
 unfolding indexFloat ofInt
 index-bits n d =
-    let r = simp mul-one at (round-bits false n 0 0 (gone n) (149 + gone n) (omega arith) (d .below) (inr (d .least))) in
+    let r = simp mul-one at (round-bits false n 0 0 (shift n) (149 + shift n) (omega arith) (d .below) (inr (d .least))) in
     r ∙ rw (zero-add, min-eq-left (le-of-lt (index-pattern-lt n d)))

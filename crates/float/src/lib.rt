@@ -1,4 +1,4 @@
-// Float leaves: bit patterns, widening and narrowing, indices. Each is total and has one equation.
+// Conversions of floats: to and from bit patterns, between the widths, to and from indices. Each public one is total and has one equation.
 ghost use mathlib.Core.Path.{_≡_};
 ghost use Prim.Native.Nat.{_<_, _^_};
 ghost use lib.Ieee.{binary32, binary64, ofBits, toBits};
@@ -17,7 +17,7 @@ pub fn f32_from_bits(b: u32) -> f32
     }
 }
 
-// The bit pattern of a float: 7fc00000 for a NaN.
+// The bit pattern of a float: 7fc00000 for a NaN, and 7ff8000000000000 at 64 bits.
 pub fn f32_to_bits(x: f32) -> u32
     ensures { λ r. ⌜ r ≡ toBits binary32 x ⌝ }
 {
@@ -69,7 +69,7 @@ fn rounding_shift(n: u64, k: u64) -> u64
     }
 }
 
-// The 32-bit pattern, without its sign, that the fields of a finite 64-bit pattern round to.
+// The 32-bit pattern, without its sign, that the fields of a finite 64-bit pattern round to, by the ranges of `narrowPattern`.
 fn narrow_pattern(exponent: u64, fraction: u64) -> u64
     requires { ⌜ (exponent < 2047) × (fraction < 2 ^ 52) ⌝ }
     ensures { λ r. ⌜ r ≡ narrowPattern exponent fraction ⌝ }
@@ -83,7 +83,7 @@ fn narrow_pattern(exponent: u64, fraction: u64) -> u64
     }
 }
 
-// Where a 64-bit pattern falls when it is narrowed. A finite one falls by its rounded result, which a case holds as a 32-bit pattern without its sign.
+// The cases of narrowing a 64-bit pattern. A finite one goes by its rounded result, which the case holds as a 32-bit pattern without its sign.
 enum Narrowed {
     Nan,
     Infinite,
@@ -118,6 +118,7 @@ fn narrow_case(b: u64) -> Narrowed
     Narrowed::Zero
 }
 
+// The 32-bit pattern of a case, without its sign.
 fn case_pattern(case: Narrowed) -> u32
     ensures { λ r. ⌜ r ≡ casePattern case ⌝ }
 {
@@ -131,7 +132,7 @@ fn case_pattern(case: Narrowed) -> u32
     }
 }
 
-// x rounded to 32 bits, to the nearest and at a tie to the even one.
+// x rounded to 32 bits: to the nearest, and at a tie to the even one.
 pub fn narrow(x: f64) -> f32
     ensures { λ r. ⌜ r ≡ narrow x ⌝ }
 {
@@ -144,7 +145,7 @@ pub fn narrow(x: f64) -> f32
     }
 }
 
-// The index of x's floor, as Rust's `x.floor() as usize`.
+// The index of x's floor, as Rust's `x.floor() as usize`: 0 below 0 and for a NaN, and the last one from 2 ^ 64 on.
 pub fn floor_index(x: f32) -> u64
     ensures { λ r. ⌜ r ≡ floorIndex x ⌝ }
 {
@@ -159,7 +160,7 @@ pub fn floor_index(x: f32) -> u64
     }
 }
 
-// The index of x's ceiling, as Rust's `x.ceil() as usize`. From 2 ^ 24 on every float is whole.
+// The index of x's ceiling, as Rust's `x.ceil() as usize`: one above the floor's where x is above its floor. From 2 ^ 24 on every float is whole.
 pub fn ceiling_index(x: f32) -> u64
     ensures { λ r. ⌜ r ≡ ceilingIndex x ⌝ }
 {
@@ -172,7 +173,8 @@ pub fn ceiling_index(x: f32) -> u64
     n
 }
 
-// The float nearest to an index, and at a tie the even one. Up to 2 ^ 24 every index is a float; above, all but the 24 leading digits go.
+// The float nearest to an index, and at a tie the even one. Below 2 ^ 24 every index is a float. From there on all but the 24 leading digits go:
+// the k lowest, so that the last place is 2 ^ k, which is 149 + k places above the smallest value.
 pub fn index_to_float(n: u64) -> f32
     ensures { λ r. ⌜ r ≡ indexFloat n ⌝ }
 {

@@ -1,6 +1,6 @@
 -- `float::ceiling_index` meets its contract: below 2 ^ 24 the test tells whether there is a remainder, and from there on there is none. Assumes nothing.
-use mathlib.Core.Path.{_≡_, sym, subst, ap, _∙_}
-use Prim.Native.Nat.{ℕ, _+_, _^_, _≤_}
+use mathlib.Core.Path.{_≡_, sym, _∙_}
+use Prim.Native.Nat.{_+_, _^_, _≤_}
 use native.Mathlib.Nat.{add-zero}
 use native.Mathlib.Omega.{arith}
 use mathlib.Core.Bool.{cond}
@@ -17,16 +17,16 @@ use Rattle.float.proofs.ceiling_index.Tie as tie
 floor-index-requires : tie.Need-floor-index-requires
 floor-index-requires c κs = search needs
 
-index : (c : tie.After-floor-index) → c .floor-index .result ≡ toUnsigned 64 (c .before .args .x)
-index c = c .floor-index .ensures ∙ floor-is (c .before .args .x)
+floor-result : (c : tie.After-floor-index) → c .floor-index .result ≡ toUnsigned 64 (c .before .args .x)
+floor-result c = c .floor-index .ensures ∙ floor-is (c .before .args .x)
 
 small : (c : tie.Then1) → c .before .floor-index .result ≤ 2 ^ 24
 unfolding ofBits
-small c = rw (index (c .before)) (small-index (c .before .before .args .x) (c .if1 .taken))
+small c = rw (floor-result (c .before)) (small-index (c .before .before .args .x) (c .if1 .taken))
 
-ceiling : (c : tie.Then1) → let n = c .before .floor-index .result in let x = c .before .before .args .x in ceilingIndex x ≡ n + cond (lt (ofInt binary32 (pos n)) x) 1 0
+ceiling-result : (c : tie.Then1) → let n = c .before .floor-index .result in let x = c .before .before .args .x in ceilingIndex x ≡ n + cond (lt (ofInt binary32 (pos n)) x) 1 0
 unfolding ofBits
-ceiling c = rw (index (c .before)) (ceiling-small (c .before .before .args .x) (c .if1 .taken))
+ceiling-result c = rw (floor-result (c .before)) (ceiling-small (c .before .before .args .x) (c .if1 .taken))
 
 int-to-float-if2 : tie.Need-int-to-float-if2
 unfolding inFloat
@@ -36,14 +36,14 @@ add-result : tie.Need-add-result
 add-result c = record { fits = omega (arith, small (c .before .before)) }
 
 returns : tie.Need-returns
-returns c = sym (rw (c .if2 .taken) at (ceiling (c .before .before)))
+returns c = sym (rw (c .if2 .taken) at (ceiling-result (c .before .before)))
 
 returns-2 : tie.Need-returns-2
-returns-2 c = sym (rw (c .if2 .left, add-zero) at (ceiling (c .before .before)))
+returns-2 c = sym (rw (c .if2 .left, add-zero) at (ceiling-result (c .before .before)))
 
 returns-3 : tie.Need-returns-3
 unfolding ofBits
-returns-3 c = index (c .before) ∙ sym (ceiling-large _ (passes _ (c .before .before .good .0 .1)) (c .if1 .left))
+returns-3 c = floor-result (c .before) ∙ sym (ceiling-large _ (passes _ (c .before .before .good .0 .1)) (c .if1 .left))
 
 pub ceiling-index-spec : {M : Type 1} → statement M
 ceiling-index-spec =

@@ -1,15 +1,15 @@
 -- `float::f64_to_bits` meets its contract: only a NaN differs from itself. Assumes nothing.
 use borrow.Author.Needs.{needs}
 use lib.Ieee.{binary64}
-use Rattle.float.proofs.Patterns.{differs, equals}
+use Rattle.float.proofs.Patterns.{differs-is-nan, equals-is-none}
 use Rattle.float.proofs.f64_to_bits.Statement.{statement}
 use Rattle.float.proofs.f64_to_bits.Tie as tie
 
 float-to-bits-result : tie.Need-float-to-bits-result
-float-to-bits-result c = equals _ (c .if1 .left)
+float-to-bits-result c = equals-is-none _ (c .if1 .left)
 
 returns : tie.Need-returns
-returns c = differs binary64 _ (c .if1 .taken)
+returns c = differs-is-nan binary64 _ (c .if1 .taken)
 
 returns-2 : tie.Need-returns-2
 returns-2 c = search needs

@@ -1,4 +1,4 @@
--- `float::floor_index` meets its contract: an index is cut off toward zero, and the tests name its ends. Assumes nothing.
+-- `float::floor_index` meets its contract: truncation gives the floor's index, and the tests keep it in its range. Assumes nothing.
 use mathlib.Core.Path.{sym, _∙_}
 use denote.Floats.{passes}
 use lib.Ieee.{ofBits, neg}

@@ -1,13 +1,12 @@
 -- `float::index_to_float` meets its contract: below 2 ^ 24 the cast is exact, and above, the 24 leading digits are rounded to a pattern. Assumes nothing.
-use mathlib.Core.Path.{_≡_, refl, sym, ap, _∙_}
-use Prim.Native.Nat.{ℕ, _+_, _*_, _^_, _<_}
+use mathlib.Core.Path.{refl}
+use Prim.Native.Nat.{_+_, _*_, _^_, _<_}
 use native.Mathlib.Omega.{arith}
 use borrow.Author.Needs.{needs}
 use lib.Dec.{le→leb}
 use lib.Ieee.{inFloat}
-use lib.Ieee.Nearest.{closest}
 use Rattle.model.specs.Numbers.{indexFloat}
-use Rattle.float.proofs.Index.{gone, Leading, leading, index-pattern-lt, index-bits}
+use Rattle.float.proofs.Index.{shift, Leading, leading, index-pattern-lt, index-bits}
 use Rattle.float.proofs.index_to_float.Statement.{statement}
 use Rattle.float.proofs.index_to_float.Tie as tie
 
@@ -33,7 +32,7 @@ mul-f32-from-bits c = search needs
 rounding-shift-requires : tie.Need-rounding-shift-requires
 rounding-shift-requires c κs = (omega (arith, digits c .few), omega arith)
 
-pattern-lt : (c : tie.After-rounding-shift) → (149 + gone (c .before .before .args .n)) * 0x80_0000 + c .rounding-shift .result < 0x7f80_0000
+pattern-lt : (c : tie.After-rounding-shift) → (149 + shift (c .before .before .args .n)) * 0x80_0000 + c .rounding-shift .result < 0x7f80_0000
 pattern-lt c = rw (c .rounding-shift .ensures) (index-pattern-lt (c .before .before .args .n) (digits (c .before)))
 
 add-f32-from-bits-2 : tie.Need-add-f32-from-bits-2
