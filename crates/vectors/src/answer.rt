@@ -29,6 +29,7 @@ pub struct Answer {
     pub words: [u32; 16],
 }
 
+// 0 past the end, so that no reader below asks how many words there are. Each reads from the first word on.
 fn word_at(words: &[u32], i: usize) -> u32 {
     if i < words.len() { words[i] } else { 0 }
 }

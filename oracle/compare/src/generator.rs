@@ -268,7 +268,8 @@ impl Generator {
     }
 }
 
-/// Half way from the non-negative float of a pattern to the next one, where the infinity counts as 2^128.
+/// Half way from the non-negative float of a pattern to the next one, where the infinity counts as
+/// 2^128.
 pub fn midpoint(word: u32) -> f64 {
     let value = |word: u32| match f32::from_bits(word) {
         x if x.is_infinite() => 2f64.powi(128),

@@ -223,7 +223,8 @@ mod tests {
             .collect()
     }
 
-    /// Every order of the three diagonal entries, with and without ties, on each side of the trace's test.
+    /// Every order of the three diagonal entries, with and without ties, on each side of the trace's
+    /// test.
     #[test]
     fn has_each_diagonal() {
         let mut seen = BTreeSet::new();

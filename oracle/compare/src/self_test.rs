@@ -1,5 +1,5 @@
-//! Shows that a comparison can fail: the program's answers are spoiled on the way, and each time the
-//! comparison must say so.
+//! Shows that a comparison can fail: the program's answers are spoiled on the way, and each time
+//! the comparison must say so.
 
 use crate::program::{mismatches, Subject};
 use crate::random_rows;
