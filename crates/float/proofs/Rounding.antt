@@ -22,7 +22,7 @@ le-or-lt a b = go (leb a b) (leb→le a b) (nleb→lt a b)
     go true h n = inl (h tt)
     go false h n = inr (n tt)
 
--- ---- the nearest whole number, by how twice the remainder compares with the divisor
+-- ---- `closest` in each of its three cases
 
 compared : (a b : ℕ) (o : Ordering) → leb a b ≡ isLe o → eqb a b ≡ isEq o → compare a b ≡ o
 compared a b o = go (compare a b) o

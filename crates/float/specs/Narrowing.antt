@@ -11,8 +11,8 @@ abbrev pub significand : ℕ → ℕ
 significand t = 2 ^ 52 + t
 
 -- The 32-bit pattern, without its sign, that the exponent x and the fraction t of a finite 64-bit pattern round to.
--- From exponent 897 on, which is 1 in 32 bits, 29 of the 53 digits go. Below, down to 873, more go, and the last place is 2 ^ -149.
--- Below 873 all is under half of that. From 7f800000 on, the infinity's pattern, the result is too large.
+-- Exponent 897 is exponent 1 of 32 bits, the least of a normal result: from there on 53 − 24 digits are lost. Under it the result is subnormal, its last
+-- place stays at 2 ^ -149, and one more digit is lost each time; under 873 nothing is left. Patterns from 7f800000 on stand for overflow.
 unfoldable pub narrowPattern : ℕ → ℕ → ℕ
 narrowPattern x t =
     cond (leb 897 x) ((x - 897) * 0x80_0000 + closest (significand t) (2 ^ 29)) (cond (leb 873 x) (closest (significand t) (2 ^ (926 - x))) 0)
@@ -24,7 +24,7 @@ finiteCase n = cond (leb 0x7f80_0000 n) TooLarge (cond (leb 0x80_0000 n) (Normal
 unfoldable pub fieldsCase : ℕ → ℕ → Narrowed
 fieldsCase x t = cond (eqb x 2047) (cond (eqb t 0) Infinite Nan) (finiteCase (narrowPattern x t))
 
--- every 64-bit pattern falls in exactly one case
+-- being a function of the pattern, it puts each in one case only
 abbrev pub narrowCase : ℕ → Narrowed
 narrowCase b = fieldsCase (b % 2 ^ 63 / 2 ^ 52) (b % 2 ^ 52)
 

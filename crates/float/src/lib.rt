@@ -6,7 +6,7 @@ ghost use lib.Ieee.Nearest.{closest};
 ghost use Rattle.model.specs.Numbers.{narrow, floorIndex, ceilingIndex, indexFloat};
 ghost use Rattle.float.specs.Narrowing.{narrowPattern, narrowCase, casePattern};
 
-// The float of a bit pattern, every one allowed: each NaN pattern gives the one NaN.
+// f32::from_bits asks for no NaN, so a NaN's patterns are made into one by a division.
 pub fn f32_from_bits(b: u32) -> f32
     ensures { λ r. ⌜ r ≡ ofBits binary32 b ⌝ }
 {
@@ -17,7 +17,7 @@ pub fn f32_from_bits(b: u32) -> f32
     }
 }
 
-// The bit pattern of a float: 7fc00000 for a NaN, and 7ff8000000000000 at 64 bits.
+// A NaN has the pattern 7fc00000 here, and 7ff8000000000000 at 64 bits.
 pub fn f32_to_bits(x: f32) -> u32
     ensures { λ r. ⌜ r ≡ toBits binary32 x ⌝ }
 {
@@ -51,7 +51,7 @@ pub fn widen(x: f32) -> f64
     std::num::f32_to_f64_with_nan(x)
 }
 
-// A shift to the right that rounds: the whole number nearest to n / 2 ^ k, and at a tie the even one.
+// n / 2 ^ k, rounded as IEEE 754 rounds: half way goes to the even neighbour.
 fn rounding_shift(n: u64, k: u64) -> u64
     requires { ⌜ (0 < k) × (k < 64) ⌝ }
     ensures { λ r. ⌜ r ≡ closest n (2 ^ k) ⌝ }
@@ -132,7 +132,7 @@ fn case_pattern(case: Narrowed) -> u32
     }
 }
 
-// x rounded to 32 bits: to the nearest, and at a tie to the even one.
+// Worked out on the pattern, since the cast `x as f32` is not supplied.
 pub fn narrow(x: f64) -> f32
     ensures { λ r. ⌜ r ≡ narrow x ⌝ }
 {
@@ -145,7 +145,7 @@ pub fn narrow(x: f64) -> f32
     }
 }
 
-// The index of x's floor, as Rust's `x.floor() as usize`: 0 below 0 and for a NaN, and the last one from 2 ^ 64 on.
+// Rust's `x.floor() as usize`. Truncation is the floor from 0 on; what has no index gets the first or the last.
 pub fn floor_index(x: f32) -> u64
     ensures { λ r. ⌜ r ≡ floorIndex x ⌝ }
 {
@@ -160,7 +160,7 @@ pub fn floor_index(x: f32) -> u64
     }
 }
 
-// The index of x's ceiling, as Rust's `x.ceil() as usize`: one above the floor's where x is above its floor. From 2 ^ 24 on every float is whole.
+// Rust's `x.ceil() as usize`: the next index where x is above its floor, which can only be below 2 ^ 24: larger floats are whole.
 pub fn ceiling_index(x: f32) -> u64
     ensures { λ r. ⌜ r ≡ ceilingIndex x ⌝ }
 {
@@ -173,8 +173,8 @@ pub fn ceiling_index(x: f32) -> u64
     n
 }
 
-// The float nearest to an index, and at a tie the even one. Below 2 ^ 24 every index is a float. From there on all but the 24 leading digits go:
-// the k lowest, so that the last place is 2 ^ k, which is 149 + k places above the smallest value.
+// Rust's `n as f32`. The cast is supplied where it is exact, below 2 ^ 24. From there on the k lowest digits are rounded away, so that 24 are left;
+// the last place is then 2 ^ k, which lies 149 + k places above the smallest float.
 pub fn index_to_float(n: u64) -> f32
     ensures { λ r. ⌜ r ≡ indexFloat n ⌝ }
 {

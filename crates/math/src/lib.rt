@@ -7,7 +7,8 @@ ghost use Rattle.model.specs.Numbers.{firstGuess, invSqrt};
 ghost use Rattle.model.specs.Rotations.{quaternion, dot, scaled, secondWeight, weightedSum, lerpQuaternion, productRow, product, quaternionToMatrix, fromTrace, fromDiagonal, matrixToQuaternion};
 ghost use Rattle.math.specs.Scaling.{scaledByRoot};
 
-// The first guess of inv_sqrt: the pattern shifted right by one with its sign, subtracted from 5f3759df. The subtraction wraps.
+// inv_sqrt's first guess, on bit patterns. The Rust shifts and subtracts a signed number; here its top bit is copied and the subtraction is
+// u32's wrapping one, which gives the same 32 bits.
 pub fn first_guess(bits: u32) -> u32
     ensures { λ r. ⌜ r ≡ firstGuess bits ⌝ }
 {
@@ -44,7 +45,7 @@ fn scaled(q: Quaternion, f: f32) -> Quaternion
     }
 }
 
-// The factor if the dot product is above 0, else its negative.
+// Negated where the quaternions point apart, so that the blend takes the short way round.
 fn second_weight(d: f32, factor: f32) -> f32
     ensures { λ r. ⌜ r ≡ secondWeight d factor ⌝ }
 {

@@ -7,7 +7,7 @@ use Rattle.model.specs.Run.{startVerdict, run}
 use Rattle.model.specs.Controller.{fresh}
 use Rattle.noninterference.specs.Alike.{Closed, AlikeNumbers, AlikeCalls}
 use Rattle.noninterference.specs.Trace.{Event, Session, calls, observed}
-use Rattle.noninterference.specs.Laws.Players.{fresh-together, run-same}
+use Rattle.noninterference.specs.Laws.Players.{fresh-equivalent, run-same}
 use Rattle.noninterference.specs.Laws.Output.{session-accepted, session-observed}
 
 -- what the sessions of two figures, with numbers a and b, show of the chosen joints
@@ -37,5 +37,5 @@ demand-3 plan chosen a b closed alike es fs s t k =
     record {
       first-as-defined = x;
       second-as-defined = y;
-      same = x ∙ run-same plan chosen a b ok closed alike (fresh plan a) (fresh plan b) (fresh-together plan chosen a b ok closed alike) k ∙ sym y;
+      same = x ∙ run-same plan chosen a b ok closed alike (fresh plan a) (fresh plan b) (fresh-equivalent plan chosen a b ok closed alike) k ∙ sym y;
     }

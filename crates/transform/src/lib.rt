@@ -58,7 +58,7 @@ pub fn lerp(p: Pose, q: Pose, t: f32) -> Pose
     }
 }
 
-// The rotation's matrix with the translation in the last column. The scale is left out.
+// Column 3 is the translation. The scale does not reach the matrix.
 pub fn to_matrix(p: Pose) -> Matrix4
     ensures { λ r. ⌜ r ≡ toMatrix p ⌝ }
 {

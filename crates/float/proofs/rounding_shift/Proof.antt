@@ -1,4 +1,4 @@
--- `float::rounding_shift` meets its contract: one of three cases, by the remainder and half the unit. Assumes nothing.
+-- `float::rounding_shift` meets its contract: below, above or at half the unit, the three cases of `closest`. Assumes nothing.
 use mathlib.Core.Path.{_≡_, sym, _∙_}
 use Prim.Native.Nat.{ℕ, zero, suc, _-_, _*_, _/_, _%_, _^_, _<_}
 use native.Mathlib.Nat.{mod-eq-of-lt, one-mul, div-lt-iff-lt-mul, lt-of-lt-of-le, mul-le-mul-left, pow-suc}

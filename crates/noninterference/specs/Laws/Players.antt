@@ -33,8 +33,8 @@ abbrev pub TargetReachable : List ℕ → Transition → Type 0
 TargetReachable plan Idle = Unit {0}
 TargetReachable plan (Running start goal duration) = Reachable plan goal
 
--- the invariant
-pub record Together (plan : List ℕ) (p q : Player) : Type 0 where
+-- the invariant: low-equivalence, in the field's words, with what keeps it going (only reachable states are ever current or targets)
+pub record LowEquivalent (plan : List ℕ) (p q : Player) : Type 0 where
   pub clock : p .clock ≡ q .clock
   pub speed : p .speed ≡ q .speed
   pub state : p .state ≡ q .state
@@ -93,10 +93,10 @@ module _ (plan chosen : List ℕ) (a b : List Float) (ok : check plan (length a)
   first-reachable {s} l now r (suc n) t h =
       cond-has (TargetReachable plan) (conditionHolds plan a l s t) {x = begun plan a now s t} {y = firstPassing plan a l now s (suc t) n} (target r t (omega arith)) (first-reachable l now r n (suc t) (omega arith))
 
-  module _ (p q : Player) (h : Together plan p q) (now : Float) where
-    step-together : (t : Transition) → TargetReachable plan t → Together plan (stepFrom plan a now p t) (stepFrom plan b now q t)
+  module _ (p q : Player) (h : LowEquivalent plan p q) (now : Float) where
+    step-equivalent : (t : Transition) → TargetReachable plan t → LowEquivalent plan (stepFrom plan a now p t) (stepFrom plan b now q t)
     unfolding stepFrom
-    step-together Idle r =
+    step-equivalent Idle r =
         record {
           clock = h .clock;
           speed = h .speed;
@@ -109,17 +109,17 @@ module _ (plan chosen : List ℕ) (a b : List Float) (ok : check plan (length a)
           parameters = h .parameters;
           instances = h .instances;
         }
-    step-together (Running start goal duration) r =
-        cond-both (Together plan) (isEnded now start duration)
+    step-equivalent (Running start goal duration) r =
+        cond-both (LowEquivalent plan) (isEnded now start duration)
         (λ e. record { clock = h .clock; speed = h .speed; state = refl; transition = refl; reachable = r; target = tt; parameters = h .parameters; instances = h .instances })
         (λ e. h)
 
-    pub stepped-together : Together plan (stepped plan a now p) (stepped plan b now q)
-    stepped-together = subst (λ (t : Transition). Together plan (stepped plan a now p) (stepFrom plan b now q t)) (h .transition) (step-together (p .transition) (h .target))
+    pub stepped-equivalent : LowEquivalent plan (stepped plan a now p) (stepped plan b now q)
+    stepped-equivalent = subst (λ (t : Transition). LowEquivalent plan (stepped plan a now p) (stepFrom plan b now q t)) (h .transition) (step-equivalent (p .transition) (h .target))
 
   -- ---- step 2
 
-  module _ (time : Float) (p q : Player) (h : Together plan p q) where
+  module _ (time : Float) (p q : Player) (h : LowEquivalent plan p q) where
     current-same : SameInstances plan (currentInstances plan a time p) (currentInstances plan b time q)
     unfolding currentInstances
     current-same = rw (← h .state) (synchronized-same plan chosen a b ok closed alike (h .parameters) time (p .state) (below (h .reachable)) (h .instances))
@@ -133,8 +133,8 @@ module _ (plan chosen : List ℕ) (a b : List Float) (ok : check plan (length a)
     instances-same Idle r = current-same
     instances-same (Running start goal duration) r = target-same goal r
 
-    pub synchronized-together : Together plan (synchronized plan a time p) (synchronized plan b time q)
-    synchronized-together =
+    pub synchronized-equivalent : LowEquivalent plan (synchronized plan a time p) (synchronized plan b time q)
+    synchronized-equivalent =
         record {
           clock = h .clock;
           speed = h .speed;
@@ -173,9 +173,9 @@ module _ (plan chosen : List ℕ) (a b : List Float) (ok : check plan (length a)
   states-synchronized (suc s) h is =
       synchronized-same plan chosen a b ok closed alike (same-refl nan (Read plan) (replicate maxParameters 0f)) 0f s (omega arith) (states-synchronized s (omega arith) is)
 
-  pub fresh-together : Together plan (fresh plan a) (fresh plan b)
+  pub fresh-equivalent : LowEquivalent plan (fresh plan a) (fresh plan b)
   unfolding fresh blank
-  fresh-together =
+  fresh-equivalent =
       record {
         clock = refl;
         speed = refl;
@@ -189,7 +189,7 @@ module _ (plan chosen : List ℕ) (a b : List Float) (ok : check plan (length a)
 
   -- ---- each call
 
-  module _ (p q : Player) (h : Together plan p q) where
+  module _ (p q : Player) (h : LowEquivalent plan p q) where
     now-same : (ext : Float) → nowAt p ext ≡ nowAt q ext
     unfolding nowAt
     now-same ext = rw (h .clock)
@@ -198,19 +198,19 @@ module _ (plan chosen : List ℕ) (a b : List Float) (ok : check plan (length a)
     unfolding elapsed
     elapsed-same ext = rw (h .clock, h .speed)
 
-    frame-together : (ext : Float) → Together plan (framePlayer plan a p ext) (framePlayer plan b q ext)
+    frame-equivalent : (ext : Float) → LowEquivalent plan (framePlayer plan a p ext) (framePlayer plan b q ext)
     unfolding framePlayer
-    frame-together ext = rw (now-same ext, elapsed-same ext) (synchronized-together (elapsed q ext) _ _ (stepped-together p q h (nowAt q ext)))
+    frame-equivalent ext = rw (now-same ext, elapsed-same ext) (synchronized-equivalent (elapsed q ext) _ _ (stepped-equivalent p q h (nowAt q ext)))
 
-    changed-together : {c d : Call} → AlikeCall plan c d → Together plan (changed plan a p c) (changed plan b q d)
+    changed-equivalent : {c d : Call} → AlikeCall plan c d → LowEquivalent plan (changed plan a p c) (changed plan b q d)
     unfolding changed
-    changed-together (updates delta) =
+    changed-equivalent (updates delta) =
         record { clock = rw (h .clock, h .speed); speed = h .speed; state = h .state; transition = h .transition; reachable = h .reachable; target = h .target; parameters = h .parameters; instances = h .instances }
-    changed-together (speeds v) =
+    changed-equivalent (speeds v) =
         record { clock = h .clock; speed = refl; state = h .state; transition = h .transition; reachable = h .reachable; target = h .target; parameters = h .parameters; instances = h .instances }
-    changed-together (sets n v w e) =
+    changed-equivalent (sets n v w e) =
         record { clock = h .clock; speed = h .speed; state = h .state; transition = h .transition; reachable = h .reachable; target = h .target; parameters = same-set (h .parameters) n v w (λ r. e (λ u. u r)); instances = h .instances }
-    changed-together (frames kind ext len) = frame-together ext
+    changed-equivalent (frames kind ext len) = frame-equivalent ext
 
     verdict-same : {c d : Call} → AlikeCall plan c d → callVerdict plan a p c ≡ callVerdict plan b q d
     unfolding callVerdict frameVerdict
@@ -219,21 +219,21 @@ module _ (plan chosen : List ℕ) (a b : List Float) (ok : check plan (length a)
     verdict-same (sets n v w e) = refl
     verdict-same (frames kind ext len) = rw (alike .lengths, h .state, h .transition)
 
-    unless-together : (x : Verdict) (u v : Player) → Together plan u v → Together plan (unlessRefused x u p) (unlessRefused x v q)
+    unless-equivalent : (x : Verdict) (u v : Player) → LowEquivalent plan u v → LowEquivalent plan (unlessRefused x u p) (unlessRefused x v q)
     unfolding unlessRefused
-    unless-together accepted u v k = k
-    unless-together (refused n at r) u v k = h
+    unless-equivalent accepted u v k = k
+    unless-equivalent (refused n at r) u v k = h
 
-    pub after-together : {c d : Call} → AlikeCall plan c d → Together plan (after plan a p c) (after plan b q d)
+    pub after-equivalent : {c d : Call} → AlikeCall plan c d → LowEquivalent plan (after plan a p c) (after plan b q d)
     unfolding after
-    after-together {c} {d} k = rw (verdict-same k) (unless-together (callVerdict plan b q d) (changed plan a p c) (changed plan b q d) (changed-together k))
+    after-equivalent {c} {d} k = rw (verdict-same k) (unless-equivalent (callVerdict plan b q d) (changed plan a p c) (changed plan b q d) (changed-equivalent k))
 
     frame-matrix : (kind : FrameKind) (ext : Float) (j : ℕ) → List·Memᴰ j chosen → getD (frameMatrices plan a p ext kind) j identityMatrix ≡ getD (frameMatrices plan b q ext kind) j identityMatrix
     unfolding frameMatrices
     frame-matrix kind ext j m =
         shown-same kind _ _ j
         (rw (now-same ext, elapsed-same ext)
-        (matrices-same plan chosen (length a) ok closed _ _ (joint-same (elapsed q ext) _ _ (stepped-together p q h (nowAt q ext)) (nowAt q ext)) (jointCount plan) identityMatrix j (closed .are-joints j m) m))
+        (matrices-same plan chosen (length a) ok closed _ _ (joint-same (elapsed q ext) _ _ (stepped-equivalent p q h (nowAt q ext)) (nowAt q ext)) (jointCount plan) identityMatrix j (closed .are-joints j m) m))
 
     floats-same : {c d : Call} → AlikeCall plan c d → chosenFloats plan a chosen p c ≡ chosenFloats plan b chosen q d
     unfolding chosenFloats
@@ -246,10 +246,10 @@ module _ (plan chosen : List ℕ) (a b : List Float) (ok : check plan (length a)
         → observation (callVerdict plan a p c) (after plan a p c) (chosenFloats plan a chosen p c) ≡ observation (callVerdict plan b q d) (after plan b q d) (chosenFloats plan b chosen q d)
     unfolding observation
     observation-same k =
-        let e : Together plan _ _ = after-together k in
+        let e : LowEquivalent plan _ _ = after-equivalent k in
         rw (verdict-same k, floats-same k, e .clock, e .speed, e .state, e .transition)
 
-  pub run-same : (p q : Player) → Together plan p q → {cs ds : List Call} → AlikeCalls plan cs ds → runFrom plan a chosen p cs ≡ runFrom plan b chosen q ds
+  pub run-same : (p q : Player) → LowEquivalent plan p q → {cs ds : List Call} → AlikeCalls plan cs ds → runFrom plan a chosen p cs ≡ runFrom plan b chosen q ds
   unfolding runFrom
   run-same p q h none = refl
-  run-same p q h (next k ks) = rw (observation-same p q h k, run-same _ _ (after-together p q h k) ks)
+  run-same p q h (next k ks) = rw (observation-same p q h k, run-same _ _ (after-equivalent p q h k) ks)

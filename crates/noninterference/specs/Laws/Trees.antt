@@ -23,17 +23,17 @@ use Rattle.noninterference.specs.Laws.Lists.{cond-both, cond-same, SameA
 use Rattle.noninterference.specs.Laws.Numbers.{duration-same, clip-same}
 
 -- instance n is one that a reachable state uses
-pub data Belongs (plan : List ℕ) : ℕ → Type 0 where
-  belongs : {s : ℕ} → Reachable plan s → (i : ℕ) → i < nodeCount plan s → isClip plan s i ≡ true → (n : ℕ) → n ≡ clipNode plan s i → Belongs plan n
+pub data ReachableInstance (plan : List ℕ) : ℕ → Type 0 where
+  instanceOf : {s : ℕ} → Reachable plan s → (i : ℕ) → i < nodeCount plan s → isClip plan s i ≡ true → (n : ℕ) → n ≡ clipNode plan s i → ReachableInstance plan n
 
 -- the part of the invariant about clip instances: three floats for each
 abbrev pub SameInstances : List ℕ → List Float → List Float → Type 0
-SameInstances plan is ks = SameAt nan (λ k. Belongs plan (k / 3)) is ks
+SameInstances plan is ks = SameAt nan (λ k. ReachableInstance plan (k / 3)) is ks
 
 -- ---- one instance read and set
 
 module _ (plan : List ℕ) {is ks : List Float} (same : SameInstances plan is ks) (n : ℕ) where
-  pub instance-same : Belongs plan n → instanceAt is n ≡ instanceAt ks n
+  pub instance-same : ReachableInstance plan n → instanceAt is n ≡ instanceAt ks n
   instance-same q =
       rw (
         same .at (3 * n) (at (3 * n) (omega arith)),
@@ -41,10 +41,10 @@ module _ (plan : List ℕ) {is ks : List Float} (same : SameInstances plan is ks
         same .at (3 * n + 2) (at (3 * n + 2) (omega arith)),
       )
     where
-      at : (k : ℕ) → k / 3 ≡ n → Belongs plan (k / 3)
-      at k e = subst (Belongs plan) (sym e) q
+      at : (k : ℕ) → k / 3 ≡ n → ReachableInstance plan (k / 3)
+      at k e = subst (ReachableInstance plan) (sym e) q
 
-  pub rate-set-same : (time x y : Float) → (Belongs plan n → x ≡ y) → SameInstances plan (rateSet time n x is) (rateSet time n y ks)
+  pub rate-set-same : (time x y : Float) → (ReachableInstance plan n → x ≡ y) → SameInstances plan (rateSet time n x is) (rateSet time n y ks)
   rate-set-same time x y e =
       same-set
       (same-set
@@ -52,18 +52,18 @@ module _ (plan : List ℕ) {is ks : List Float} (same : SameInstances plan is ks
       (3 * n + 1) _ _ (λ q. ap (λ (i : ClipInstance). i .rate) (set-same (3 * n + 1) (omega arith) q)))
       (3 * n + 2) _ _ (λ q. ap (λ (i : ClipInstance). i .offset) (set-same (3 * n + 2) (omega arith) q))
     where
-      set-same : (k : ℕ) → k / 3 ≡ n → Belongs plan (k / 3) → setPlaybackRate (instanceAt is n) time x ≡ setPlaybackRate (instanceAt ks n) time y
+      set-same : (k : ℕ) → k / 3 ≡ n → ReachableInstance plan (k / 3) → setPlaybackRate (instanceAt is n) time x ≡ setPlaybackRate (instanceAt ks n) time y
       set-same k h q =
-          let r : Belongs plan n = subst (Belongs plan) h q in
+          let r : ReachableInstance plan n = subst (ReachableInstance plan) h q in
           ap (λ (z : Float). setPlaybackRate (instanceAt is n) time z) (e r) ∙ ap (λ (i : ClipInstance). setPlaybackRate i time y) (instance-same r)
 
 module _ (plan chosen : List ℕ) (a b : List Float) (ok : check plan (length a) ≡ accepted) (closed : Closed plan chosen) (alike : AlikeNumbers plan chosen a b) {l m : List Float} (ps : SameAt nan (Read plan) l m) (time : Float) where
   -- ---- synchronising any state, reachable or not
 
   module _ (s : ℕ) (below : s < stateCount plan) where
-    -- whose instance belongs to a reachable state is that state
-    own : (i : ℕ) → i < nodeCount plan s → isClip plan s i ≡ true → Belongs plan (clipNode plan s i) → Reachable plan s
-    own i h e (belongs {s = u} r k hk ek n q) = subst (Reachable plan) (sym (same-state plan s i u k h e hk ek q)) r
+    -- whose instance instanceOf to a reachable state is that state
+    own : (i : ℕ) → i < nodeCount plan s → isClip plan s i ≡ true → ReachableInstance plan (clipNode plan s i) → Reachable plan s
+    own i h e (instanceOf {s = u} r k hk ek n q) = subst (Reachable plan) (sym (same-state plan s i u k h e hk ek q)) r
 
     length-same : (i : ℕ) → Reachable plan s → i < nodeCount plan s → isClip plan s i ≡ true → nodeLength plan a s i ≡ nodeLength plan b s i
     unfolding nodeLength
@@ -122,7 +122,7 @@ module _ (plan chosen : List ℕ) (a b : List Float) (ok : check plan (length a)
     unfolding nodePose
     node-same earlier i h =
         cond-same (isClip plan s i)
-        (λ e. ap (λ (c : ClipInstance). clipPose plan a (inputA plan s i) j (localTime c time)) (instance-same plan same (clipNode plan s i) (belongs r i h e _ refl))
+        (λ e. ap (λ (c : ClipInstance). clipPose plan a (inputA plan s i) j (localTime c time)) (instance-same plan same (clipNode plan s i) (instanceOf r i h e _ refl))
         ∙ clip-same plan chosen a b ok closed alike (plays r i h e) chose _)
         (λ e. rw (ps .at _ (byNode r i h e)))
 
