@@ -1,11 +1,11 @@
 -- Document 01, "Start": refusals 1 to 7, as a row of checks in the order of the words. Definitions only.
-use Prim.Native.Nat.{ℕ, zero, suc, _+_, _-_}
+use Prim.Native.Nat.{ℕ, zero, suc, _-_}
 use mathlib.Core.Bool.{Bool, false, cond, not, _&&_, _||_}
 use mathlib.Core.List.{List}
 use lib.ListN.{length}
 use lib.Dec.{leb, ltb, eqb}
 use Rattle.model.specs.Answers.{Verdict, _then_, each, require}
-use Rattle.model.specs.Plan.{maxJoints, maxClips, maxParameters, maxStates, maxSamples, maxNodes, maxTransitions, maxClipNodes, jointCount, clipCount, parameterCount, stateCount, initialState, parentAt, parent, isRoot, sampleCountAt, sampleCount, stateAt, nodeCount, nodeAt, kind, isClip, inputA, inputB, nodeParameter, transitionCountAt, transitionCount, transitionAt, conditionParameter, operator, targetState, planEnd, clipNode, numbersLength}
+use Rattle.model.specs.Plan.{maxJoints, maxClips, maxParameters, maxStates, maxSamples, maxNodes, maxTransitions, maxClipNodes, jointCountAt, clipCountAt, parameterCountAt, stateCountAt, initialStateAt, parentAt, jointCount, clipCount, parameterCount, stateCount, initialState, parent, isRoot, sampleCountAt, sampleCount, stateAt, nodeCount, kindAt, inputAAt, inputBAt, nodeParameterAt, kind, isClip, inputA, inputB, nodeParameter, transitionCountAt, transitionCount, conditionParameterAt, operatorAt, targetStateAt, conditionParameter, operator, targetState, planEnd, clipNode, numbersLength}
 
 -- refusal 1 where the plan has no such word, else the number given where the word fails its test
 unfoldable pub wordIs : List ℕ → ℕ → ℕ → Bool → Verdict
@@ -17,9 +17,9 @@ within low x high = leb low x && leb x high
 -- refusal 2 in the header
 unfoldable pub checkHeader : List ℕ → Verdict
 checkHeader plan =
-    wordIs plan 2 0 (within 1 (jointCount plan) maxJoints) then wordIs plan 2 1 (within 1 (clipCount plan) maxClips) then
-    wordIs plan 2 2 (leb (parameterCount plan) maxParameters) then wordIs plan 2 3 (within 1 (stateCount plan) maxStates) then
-    wordIs plan 2 4 (ltb (initialState plan) (stateCount plan))
+    wordIs plan 2 jointCountAt (within 1 (jointCount plan) maxJoints) then wordIs plan 2 clipCountAt (within 1 (clipCount plan) maxClips) then
+    wordIs plan 2 parameterCountAt (leb (parameterCount plan) maxParameters) then wordIs plan 2 stateCountAt (within 1 (stateCount plan) maxStates) then
+    wordIs plan 2 initialStateAt (ltb (initialState plan) (stateCount plan))
 
 -- refusal 3
 unfoldable pub checkParent : List ℕ → ℕ → Verdict
@@ -36,23 +36,21 @@ used plan s (suc i) k = used plan s i k || (not (isClip plan s i) && (eqb (input
 -- refusal 4 for a node's words, and 2 for one clip node too many, which is known as soon as its kind is
 unfoldable pub checkNode : List ℕ → ℕ → ℕ → Verdict
 checkNode plan s i =
-    let at = nodeAt plan s i in
     let a = inputA plan s i in
     let b = inputB plan s i in
     let p = nodeParameter plan s i in
-    wordIs plan 4 at (leb (kind plan s i) 2) then
-    require (not (isClip plan s i) || ltb (clipNode plan s i) maxClipNodes) 2 at then
-    wordIs plan 4 (at + 1) (cond (isClip plan s i) (ltb a (clipCount plan)) (ltb a i && not (used plan s i a))) then
-    wordIs plan 4 (at + 2) (cond (isClip plan s i) (eqb b 0) (ltb b i && not (used plan s i b) && not (eqb a b))) then
-    wordIs plan 4 (at + 3) (cond (isClip plan s i) (eqb p 0) (ltb p (parameterCount plan)))
+    wordIs plan 4 (kindAt plan s i) (leb (kind plan s i) 2) then
+    require (not (isClip plan s i) || ltb (clipNode plan s i) maxClipNodes) 2 (kindAt plan s i) then
+    wordIs plan 4 (inputAAt plan s i) (cond (isClip plan s i) (ltb a (clipCount plan)) (ltb a i && not (used plan s i a))) then
+    wordIs plan 4 (inputBAt plan s i) (cond (isClip plan s i) (eqb b 0) (ltb b i && not (used plan s i b) && not (eqb a b))) then
+    wordIs plan 4 (nodeParameterAt plan s i) (cond (isClip plan s i) (eqb p 0) (ltb p (parameterCount plan)))
 
 -- refusal 5
 unfoldable pub checkTransition : List ℕ → ℕ → ℕ → Verdict
 checkTransition plan s t =
-    let at = transitionAt plan s t in
-    wordIs plan 5 at (ltb (conditionParameter plan s t) (parameterCount plan)) then
-    wordIs plan 5 (at + 1) (leb (operator plan s t) 5) then
-    wordIs plan 5 (at + 2) (ltb (targetState plan s t) (stateCount plan))
+    wordIs plan 5 (conditionParameterAt plan s t) (ltb (conditionParameter plan s t) (parameterCount plan)) then
+    wordIs plan 5 (operatorAt plan s t) (leb (operator plan s t) 5) then
+    wordIs plan 5 (targetStateAt plan s t) (ltb (targetState plan s t) (stateCount plan))
 
 -- a state: K, its nodes, that no node but the root is left over, T, its transitions
 unfoldable pub checkState : List ℕ → ℕ → Verdict

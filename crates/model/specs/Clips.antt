@@ -25,6 +25,7 @@ factor position = position -₃₂ indexFloat (floorIndex position)
 
 -- ---- a clip instance
 
+-- 'local time'
 abbrev pub localTime : ClipInstance → Float → Float
 localTime i time = (time -₃₂ i .start) *₃₂ i .rate +₃₂ i .offset
 
@@ -49,6 +50,7 @@ blankInstances (suc n) = 0f ∷ 1f ∷ 0f ∷ blankInstances n
 -- ---- a clip
 
 module _ (plan : List ℕ) (numbers : List Float) where
+  -- 'duration'
   unfoldable pub duration : ℕ → Float
   duration c = indexFloat (sampleCount plan c) /₃₂ number plan numbers (Rate c)
 

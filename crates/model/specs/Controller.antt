@@ -1,5 +1,5 @@
 -- Document 01, "Controller (controller.rs)", but for step 3. Definitions only.
-use Prim.Native.Nat.{ℕ, zero, suc, _*_}
+use Prim.Native.Nat.{ℕ, zero, suc}
 use mathlib.Core.Bool.{Bool, true, cond}
 use mathlib.Core.List.{List}
 use lib.ListN.{set, length, replicate}
@@ -12,7 +12,7 @@ use Rattle.model.specs.declared.Pose.{Pose}
 use Rattle.model.specs.Numbers.{_+₆₄_, _-₆₄_, _*₆₄_, _/₆₄_, 0f, 1f, narrow}
 use Rattle.model.specs.Answers.{Verdict, _then_, require}
 use Rattle.model.specs.Pose.{lerp}
-use Rattle.model.specs.Plan.{maxParameters, maxClipNodes, jointCount, stateCount, initialState, transitionCount, conditionParameter, operator, targetState, number, Value, Duration}
+use Rattle.model.specs.Plan.{maxParameters, maxClipNodes, jointCount, stateCount, initialState, transitionCount, conditionParameter, operator, targetState, number, Value, Duration, outputAt}
 use Rattle.model.specs.Check.{check}
 use Rattle.model.specs.Clips.{blankInstances}
 use Rattle.model.specs.Tree.{parameter, synchronize, statePose}
@@ -55,9 +55,11 @@ fresh plan numbers = withInstances (withState blank (initialState plan)) (synchr
 
 -- ---- update, speed, set
 
+-- 'update'
 abbrev pub updated : Player → Float → Player
 updated p delta = withClock p (p .clock +₆₄ delta *₆₄ p .speed)
 
+-- 'set'. ('speed' is `withSpeed`)
 abbrev pub parameterSet : Player → ℕ → Float → Player
 parameterSet p n v = withParameters p (set (p .parameters) n v)
 
@@ -67,6 +69,7 @@ setVerdict n = require (ltb n maxParameters) 8 0
 
 -- ---- a frame's refusals: the start's, then 9 for a state that the plan does not have, then 10 for the output's length
 
+-- an idle player has no 'running target' to be wrong
 unfoldable pub isTargetBelow : ℕ → Transition → Bool
 isTargetBelow n Idle = true
 isTargetBelow n (Running start target duration) = ltb target n
@@ -76,10 +79,11 @@ frameVerdict plan numbers p outputLength =
     check plan (length numbers) then
     require (ltb (p .state) (stateCount plan)) 9 0 then
     require (isTargetBelow (stateCount plan) (p .transition)) 9 0 then
-    require (leb (16 * jointCount plan) outputLength) 10 0
+    require (leb (outputAt (jointCount plan)) outputLength) 10 0
 
 -- ---- step 1
 
+-- 'now': the speed does not count
 unfoldable pub nowAt : Player → Float → Float
 nowAt p ext = p .clock +₆₄ ext
 
@@ -87,7 +91,7 @@ nowAt p ext = p .clock +₆₄ ext
 unfoldable pub isEnded : Float → Float → Float → Bool
 isEnded now start duration = le (start +₆₄ duration) now
 
--- 'operator'
+-- what 'operators' 0 to 5 compare: < <= > >= == != of Rust, parameter on the left
 unfoldable pub holds : ℕ → Float → Float → Bool
 holds op p v =
     cond (eqb op 0) (lt p v)
@@ -114,11 +118,13 @@ module _ (plan : List ℕ) (numbers : List Float) where
   stepFrom now p Idle = withTransition p (firstPassing (p .parameters) now (p .state) 0 (transitionCount plan (p .state)))
   stepFrom now p (Running start target duration) = cond (isEnded now start duration) (withTransition (withState p target) Idle) p
 
+  -- of the player's own transition
   abbrev pub stepped : Float → Player → Player
   stepped now p = stepFrom now p (p .transition)
 
 -- ---- step 2, of a player that made step 1
 
+-- 'elapsed': the speed counts
 unfoldable pub elapsed : Player → Float → Float
 elapsed p ext = narrow (p .clock +₆₄ ext *₆₄ p .speed)
 

@@ -1,5 +1,5 @@
--- Document 01, "Plan and numbers (anew)": limits, and the places of words and numbers. Definitions only.
--- Nothing outside this file adds offsets to the place of a word or a number.
+-- Document 01, "Plan and numbers (anew)": limits, and the places of words, numbers and output floats. Definitions only.
+-- Nothing outside this file works out such a place.
 use Prim.Native.Nat.{ℕ, zero, suc, _+_, _*_}
 use mathlib.Core.Bool.{Bool, cond}
 use mathlib.Core.List.{List}
@@ -38,32 +38,48 @@ maxClipNodes = 64
 
 -- ---- the words: header, parents, sample counts
 
+-- word i; 0 where there is none
 unfoldable pub word : List ℕ → ℕ → ℕ
 word plan i = getD plan i 0
 
--- J, C, P, S and the initial state stand at 0 to 4
-unfoldable pub jointCount : List ℕ → ℕ
-jointCount plan = word plan 0
+abbrev pub jointCountAt : ℕ
+jointCountAt = 0
 
-unfoldable pub clipCount : List ℕ → ℕ
-clipCount plan = word plan 1
+abbrev pub clipCountAt : ℕ
+clipCountAt = 1
 
--- P readable parameters
-unfoldable pub parameterCount : List ℕ → ℕ
-parameterCount plan = word plan 2
+abbrev pub parameterCountAt : ℕ
+parameterCountAt = 2
 
-unfoldable pub stateCount : List ℕ → ℕ
-stateCount plan = word plan 3
+abbrev pub stateCountAt : ℕ
+stateCountAt = 3
 
-unfoldable pub initialState : List ℕ → ℕ
-initialState plan = word plan 4
+abbrev pub initialStateAt : ℕ
+initialStateAt = 4
 
 abbrev pub parentAt : ℕ → ℕ
 parentAt j = 5 + j
 
+-- J, C, P, S
+unfoldable pub jointCount : List ℕ → ℕ
+jointCount plan = word plan jointCountAt
+
+unfoldable pub clipCount : List ℕ → ℕ
+clipCount plan = word plan clipCountAt
+
+unfoldable pub parameterCount : List ℕ → ℕ
+parameterCount plan = word plan parameterCountAt
+
+unfoldable pub stateCount : List ℕ → ℕ
+stateCount plan = word plan stateCountAt
+
+unfoldable pub initialState : List ℕ → ℕ
+initialState plan = word plan initialStateAt
+
 unfoldable pub parent : List ℕ → ℕ → ℕ
 parent plan j = word plan (parentAt j)
 
+-- 'root'
 unfoldable pub isRoot : List ℕ → ℕ → Bool
 isRoot plan j = eqb (parent plan j) 255
 
@@ -91,11 +107,21 @@ stateAt plan (suc s) = afterTransitions plan (stateAt plan s)
 unfoldable pub nodeCount : List ℕ → ℕ → ℕ
 nodeCount plan s = word plan (stateAt plan s)
 
-unfoldable pub nodeAt : List ℕ → ℕ → ℕ → ℕ
-nodeAt plan s i = stateAt plan s + 1 + 4 * i
+-- node i of state s: kind, a, b, p
+unfoldable pub kindAt : List ℕ → ℕ → ℕ → ℕ
+kindAt plan s i = stateAt plan s + 1 + 4 * i
+
+abbrev pub inputAAt : List ℕ → ℕ → ℕ → ℕ
+inputAAt plan s i = kindAt plan s i + 1
+
+abbrev pub inputBAt : List ℕ → ℕ → ℕ → ℕ
+inputBAt plan s i = kindAt plan s i + 2
+
+abbrev pub nodeParameterAt : List ℕ → ℕ → ℕ → ℕ
+nodeParameterAt plan s i = kindAt plan s i + 3
 
 unfoldable pub kind : List ℕ → ℕ → ℕ → ℕ
-kind plan s i = word plan (nodeAt plan s i)
+kind plan s i = word plan (kindAt plan s i)
 
 -- kind 0 is a clip, 1 lerp, 2 additive
 unfoldable pub isClip : List ℕ → ℕ → ℕ → Bool
@@ -106,13 +132,13 @@ isLerp plan s i = eqb (kind plan s i) 1
 
 -- a: the clip of a clip node, the first input of another
 unfoldable pub inputA : List ℕ → ℕ → ℕ → ℕ
-inputA plan s i = word plan (nodeAt plan s i + 1)
+inputA plan s i = word plan (inputAAt plan s i)
 
 unfoldable pub inputB : List ℕ → ℕ → ℕ → ℕ
-inputB plan s i = word plan (nodeAt plan s i + 2)
+inputB plan s i = word plan (inputBAt plan s i)
 
 unfoldable pub nodeParameter : List ℕ → ℕ → ℕ → ℕ
-nodeParameter plan s i = word plan (nodeAt plan s i + 3)
+nodeParameter plan s i = word plan (nodeParameterAt plan s i)
 
 unfoldable pub transitionCountAt : List ℕ → ℕ → ℕ
 transitionCountAt plan s = afterNodes plan (stateAt plan s)
@@ -120,17 +146,24 @@ transitionCountAt plan s = afterNodes plan (stateAt plan s)
 unfoldable pub transitionCount : List ℕ → ℕ → ℕ
 transitionCount plan s = word plan (transitionCountAt plan s)
 
-unfoldable pub transitionAt : List ℕ → ℕ → ℕ → ℕ
-transitionAt plan s t = transitionCountAt plan s + 1 + 3 * t
+-- transition t of state s: parameter, operator, target
+unfoldable pub conditionParameterAt : List ℕ → ℕ → ℕ → ℕ
+conditionParameterAt plan s t = transitionCountAt plan s + 1 + 3 * t
+
+abbrev pub operatorAt : List ℕ → ℕ → ℕ → ℕ
+operatorAt plan s t = conditionParameterAt plan s t + 1
+
+abbrev pub targetStateAt : List ℕ → ℕ → ℕ → ℕ
+targetStateAt plan s t = conditionParameterAt plan s t + 2
 
 unfoldable pub conditionParameter : List ℕ → ℕ → ℕ → ℕ
-conditionParameter plan s t = word plan (transitionAt plan s t)
+conditionParameter plan s t = word plan (conditionParameterAt plan s t)
 
 unfoldable pub operator : List ℕ → ℕ → ℕ → ℕ
-operator plan s t = word plan (transitionAt plan s t + 1)
+operator plan s t = word plan (operatorAt plan s t)
 
 unfoldable pub targetState : List ℕ → ℕ → ℕ → ℕ
-targetState plan s t = word plan (transitionAt plan s t + 2)
+targetState plan s t = word plan (targetStateAt plan s t)
 
 -- the place after the last state
 unfoldable pub planEnd : List ℕ → ℕ
@@ -189,3 +222,8 @@ unfoldable pub samplePose : List ℕ → List Float → ℕ → ℕ → ℕ → 
 samplePose plan numbers c n j =
     let float : ℕ → Float = λ k. number plan numbers (PoseFloat c n j k) in
     record { translation = vector (float 0) (float 1) (float 2); scale = float 3; rotation = quaternion (float 4) (float 5) (float 6) (float 7) }
+
+-- ---- the output: joint j's matrix begins here
+
+abbrev pub outputAt : ℕ → ℕ
+outputAt j = 16 * j

@@ -1,5 +1,5 @@
 -- Document 01, step 3 of a frame (skeleton.rs), and page matrices. Definitions only.
-use Prim.Native.Nat.{ℕ, _*_}
+use Prim.Native.Nat.{ℕ}
 use mathlib.Core.Bool.{cond}
 use mathlib.Core.List.{List, [], _∷_, _++_}
 use lib.ListN.{getD, drop}
@@ -9,7 +9,7 @@ use Rattle.model.specs.declared.Matrix4.{Matrix4}
 use Rattle.model.specs.Rotations.{row, identityMatrix, product, floats}
 use Rattle.model.specs.Pose.{toMatrix}
 use Rattle.model.specs.Table.{tableTo}
-use Rattle.model.specs.Plan.{parent, isRoot, jointCount}
+use Rattle.model.specs.Plan.{parent, isRoot, jointCount, outputAt}
 
 -- the parent's matrix, the identity for a root
 unfoldable pub parentMatrix : List ℕ → List Matrix4 → ℕ → Matrix4
@@ -41,4 +41,4 @@ flat (m ∷ ms) = floats m ++ flat ms
 
 -- the output buffer afterwards: what lies behind the joints' floats is as it was
 unfoldable pub written : List ℕ → List Matrix4 → List Float → List Float
-written plan ms old = flat ms ++ drop (16 * jointCount plan) old
+written plan ms old = flat ms ++ drop (outputAt (jointCount plan)) old

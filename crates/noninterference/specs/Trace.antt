@@ -1,5 +1,5 @@
 -- What is known of a program that makes calls on one figure: each keeps its promise, and the next gets the player that it returned. Definitions only.
-use Prim.Native.Nat.{ℕ, _*_}
+use Prim.Native.Nat.{ℕ}
 use mathlib.Core.Path.{_≡_}
 use mathlib.Core.List.{List, [], _∷_, map}
 use lib.ListN.{length, take, drop}
@@ -7,6 +7,7 @@ use lib.Ieee.{Float}
 use Rattle.model.specs.declared.Player.{Player}
 use Rattle.model.specs.declared.Outcome.{Outcome}
 use Rattle.model.specs.Answers.{Verdict, accepted, values}
+use Rattle.model.specs.Plan.{outputAt}
 use Rattle.model.specs.Run.{FrameKind, Call, Update, Speed, Set, Frame, Observation, observation}
 use Rattle.model.specs.Promises.{Started, Updated, SpeedSet, ParameterSet, Framed}
 
@@ -45,7 +46,7 @@ unfoldable pub outputFloats : List ℕ → Call → List Float → List (List Fl
 outputFloats chosen (Update delta) output = []
 outputFloats chosen (Speed v) output = []
 outputFloats chosen (Set n v) output = []
-outputFloats chosen (Frame kind ext outputLength) output = map (λ j. take 16 (drop (16 * j) output)) chosen
+outputFloats chosen (Frame kind ext outputLength) output = map (λ j. take 16 (drop (outputAt j) output)) chosen
 
 unfoldable pub observed : List ℕ → Event → Observation
 observed chosen e = observation (e .answer) (e .player) (outputFloats chosen (e .call) (e .output))

@@ -68,13 +68,23 @@ fn random(subject: Subject, count: usize, seed: u64) -> io::Result<bool> {
     Ok(total == 0)
 }
 
-/// The number after an option, or None if the option is not there.
-fn option(arguments: &[String], name: &str) -> Result<Option<u64>, String> {
-    let Some(at) = arguments.iter().position(|argument| argument == name) else {
-        return Ok(None);
-    };
-    let number = arguments.get(at + 1).and_then(|text| text.parse().ok());
-    number.map(Some).ok_or(format!("{name} takes a number"))
+/// How many rows, and from which seed: the defaults, or what the words after the program say.
+fn options(words: &[&str]) -> Result<(usize, u64), String> {
+    let (mut rows, mut seed) = (DEFAULT_ROWS, clock_seed());
+    for pair in words.chunks(2) {
+        match pair {
+            ["--rows", number] => rows = parsed(number)? as usize,
+            ["--seed", number] => seed = parsed(number)?,
+            _ => return Err(USAGE.to_string()),
+        }
+    }
+    Ok((rows, seed))
+}
+
+fn parsed(number: &str) -> Result<u64, String> {
+    number
+        .parse()
+        .map_err(|_| format!("compare: {number} is no number"))
 }
 
 fn clock_seed() -> u64 {
@@ -87,9 +97,8 @@ fn command(arguments: &[String]) -> Result<bool, String> {
     let done = match words[..] {
         ["record", folder] => record(Path::new(folder)),
         ["check", stdin, stdout] => check(Path::new(stdin), Path::new(stdout)),
-        ["random", binary, ..] => {
-            let rows = option(arguments, "--rows")?.map_or(DEFAULT_ROWS, |rows| rows as usize);
-            let seed = option(arguments, "--seed")?.unwrap_or_else(clock_seed);
+        ["random", binary, ref rest @ ..] => {
+            let (rows, seed) = options(rest)?;
             random(&|rows| run(Path::new(binary), rows), rows, seed)
         }
         ["self-test", binary] => self_test::self_test(&|rows| run(Path::new(binary), rows)),

@@ -1,5 +1,5 @@
 -- Facts about a plan whose check accepted.
-use Prim.Native.Nat.{ℕ, _+_, _≤_, _<_}
+use Prim.Native.Nat.{ℕ, _≤_, _<_}
 use mathlib.Core.Path.{_≡_, refl}
 use mathlib.Core.Bool.{Bool, true, false, _&&_, _||_}
 use mathlib.Core.List.{List}
@@ -7,7 +7,7 @@ use lib.ListN.{length}
 use lib.Dec.{ltb}
 use borrow.Author.Tests.{ltb-true, leb-true, eqb-true}
 use Rattle.model.specs.Answers.{accepted, each}
-use Rattle.model.specs.Plan.{jointCount, clipCount, parameterCount, stateCount, initialState, parentAt, parent, isRoot, sampleCountAt, sampleCount, stateAt, nodeCount, nodeAt, isClip, inputA, inputB, transitionCountAt, transitionCount, transitionAt, conditionParameter, targetState, numbersLength}
+use Rattle.model.specs.Plan.{jointCount, clipCount, parameterCount, stateCount, initialState, initialStateAt, parentAt, parent, isRoot, sampleCountAt, sampleCount, stateAt, nodeCount, nodeParameterAt, isClip, inputA, inputB, transitionCountAt, transitionCount, targetStateAt, conditionParameter, targetState, numbersLength}
 use Rattle.model.specs.Check.{wordIs, within, check, checkHeader, checkParent, checkSampleCount, checkNode, checkState, checkTransition}
 use Rattle.model.specs.Laws.Answers.{then-left, then-right, each-at, require-true}
 use Rattle.model.specs.Unseen.{Reachable, initial, target}
@@ -101,7 +101,7 @@ module _ (plan : List ℕ) (n : ℕ) (ok : check plan n ≡ accepted) where
     unfolding checkState
     state-there = word-there _ _ _ _ (then-left _ _ (then-left _ _ (then-left _ _ (then-left _ _ state-passed))))
 
-    pub node-there : (i : ℕ) → i < nodeCount plan s → nodeAt plan s i + 3 < length plan
+    pub node-there : (i : ℕ) → i < nodeCount plan s → nodeParameterAt plan s i < length plan
     unfolding checkNode
     node-there i h = word-there _ _ _ _ (then-right _ _ (node-passed i h))
 
@@ -109,11 +109,11 @@ module _ (plan : List ℕ) (n : ℕ) (ok : check plan n ≡ accepted) where
     unfolding checkState
     transition-count-there = word-there _ _ _ _ (then-right _ _ (then-left _ _ state-passed))
 
-    pub transition-there : (t : ℕ) → t < transitionCount plan s → transitionAt plan s t + 2 < length plan
+    pub transition-there : (t : ℕ) → t < transitionCount plan s → targetStateAt plan s t < length plan
     unfolding checkState checkTransition
     transition-there t h = word-there _ _ _ _ (then-right _ _ (each-at _ _ (then-right _ _ state-passed) t h))
 
-  pub header-there : 4 < length plan
+  pub header-there : initialStateAt < length plan
   unfolding checkHeader
   header-there = word-there _ _ _ _ (then-right _ _ header-passed)
 

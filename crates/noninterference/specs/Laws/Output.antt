@@ -11,7 +11,7 @@ use Rattle.model.specs.declared.Player.{Player}
 use Rattle.model.specs.declared.Outcome.{Outcome}
 use Rattle.model.specs.Rotations.{identityMatrix, floats}
 use Rattle.model.specs.Answers.{Verdict, accepted, refused, values, unlessRefused}
-use Rattle.model.specs.Plan.{jointCount}
+use Rattle.model.specs.Plan.{jointCount, outputAt}
 use Rattle.model.specs.Controller.{blank, fresh, frameVerdict}
 use Rattle.model.specs.Skeleton.{jointMatrices, pageMatrix, flat, written}
 use Rattle.model.specs.Run.{startVerdict, startPlayer, FrameKind, ordinary, page, shown, frameMatrices, Update, Speed, Set, Frame, callVerdict, changed, after, chosenFloats, Observation, observation, runFrom, run}
@@ -23,7 +23,7 @@ use Rattle.noninterference.specs.Laws.Lists.{map-same}
 
 -- ---- matrix j in the output
 
-at-matrix : (ms : List Matrix4) (rest : List Float) (j : ℕ) → j < length ms → take 16 (drop (16 * j) (flat ms ++ rest)) ≡ floats (getD ms j identityMatrix)
+at-matrix : (ms : List Matrix4) (rest : List Float) (j : ℕ) → j < length ms → take 16 (drop (outputAt j) (flat ms ++ rest)) ≡ floats (getD ms j identityMatrix)
 unfolding flat floats
 at-matrix [] rest j h = absurd (omega arith)
 at-matrix (m ∷ ms) rest zero h = refl
@@ -42,13 +42,13 @@ module _ (plan chosen : List ℕ) (numbers : List Float) (closed : Closed plan c
   frame-length p ext kind = shown-length kind _ ∙ table-length _ (jointCount plan)
 
   frame-floats : (p : Player) (ext : Float) (kind : FrameKind) (old : List Float)
-      → map (λ j. take 16 (drop (16 * j) (written plan (frameMatrices plan numbers p ext kind) old))) chosen ≡ map (λ j. floats (getD (frameMatrices plan numbers p ext kind) j identityMatrix)) chosen
+      → map (λ j. take 16 (drop (outputAt j) (written plan (frameMatrices plan numbers p ext kind) old))) chosen ≡ map (λ j. floats (getD (frameMatrices plan numbers p ext kind) j identityMatrix)) chosen
   unfolding written
   frame-floats p ext kind old = map-same _ _ chosen (λ j m. at-matrix (frameMatrices plan numbers p ext kind) _ j (omega (arith, frame-length p ext kind, closed .are-joints j m)))
 
   -- an accepted frame's are read from the output; a refused one shows none
   frame-observed : (v : Verdict) (p q : Player) (ext : Float) (kind : FrameKind) (old : List Float)
-      → observation v q (map (λ j. take 16 (drop (16 * j) (unlessRefused v (written plan (frameMatrices plan numbers p ext kind) old) old))) chosen)
+      → observation v q (map (λ j. take 16 (drop (outputAt j) (unlessRefused v (written plan (frameMatrices plan numbers p ext kind) old) old))) chosen)
       ≡ observation v q (map (λ j. floats (getD (frameMatrices plan numbers p ext kind) j identityMatrix)) chosen)
   unfolding unlessRefused observation
   frame-observed accepted p q ext kind old = rw (frame-floats p ext kind old)
