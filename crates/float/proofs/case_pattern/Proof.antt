@@ -4,24 +4,6 @@ use Rattle.float.specs.Narrowing.{casePattern}
 use Rattle.float.proofs.case_pattern.Statement.{statement}
 use Rattle.float.proofs.case_pattern.Tie as tie
 
-enum-told : tie.Need-enum-told
-enum-told c = search needs
-
-enum-told-2 : tie.Need-enum-told-2
-enum-told-2 c = search needs
-
-enum-told-3 : tie.Need-enum-told-3
-enum-told-3 c = search needs
-
-enum-known-case : tie.Need-enum-known-case
-enum-known-case c = search needs
-
-enum-known-case-2 : tie.Need-enum-known-case-2
-enum-known-case-2 c = search needs
-
-enum-told-4 : tie.Need-enum-told-4
-enum-told-4 c = search needs
-
 returns : tie.Need-returns
 unfolding casePattern
 returns c = cc
@@ -50,12 +32,12 @@ pub case-pattern-spec : {M : Type 1} → statement M
 case-pattern-spec =
     tie.close
     (tie.spec
-    enum-told
-    enum-told-2
-    enum-told-3
-    enum-known-case
-    enum-known-case-2
-    enum-told-4
+    (search needs)
+    (search needs)
+    (search needs)
+    (search needs)
+    (search needs)
+    (search needs)
     returns
     returns-2
     returns-3

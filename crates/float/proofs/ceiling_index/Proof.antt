@@ -14,9 +14,6 @@ use Rattle.float.proofs.Index.{floor-is, small-index, ceiling-small, ce
 use Rattle.float.proofs.ceiling_index.Statement.{statement}
 use Rattle.float.proofs.ceiling_index.Tie as tie
 
-floor-index-requires : tie.Need-floor-index-requires
-floor-index-requires c κs = search needs
-
 floor-result : (c : tie.After-floor-index) → c .floor-index .result ≡ toUnsigned 64 (c .before .args .x)
 floor-result c = c .floor-index .ensures ∙ floor-is (c .before .args .x)
 
@@ -48,4 +45,4 @@ returns-3 c = floor-result (c .before) ∙ sym (ceiling-large _ (passes _ (c .be
 pub ceiling-index-spec : {M : Type 1} → statement M
 ceiling-index-spec =
     tie.close
-    (tie.spec floor-index-requires int-to-float-if2 add-result returns returns-2 returns-3)
+    (tie.spec (search needs) int-to-float-if2 add-result returns returns-2 returns-3)

@@ -11,8 +11,5 @@ float-from-bits-result c = up-to-infinity binary32 _ (c .if1 .left)
 returns : tie.Need-returns
 returns c = above-infinity binary32 _ (c .if1 .taken)
 
-returns-2 : tie.Need-returns-2
-returns-2 c = search needs
-
 pub f32-from-bits-spec : {M : Type 1} → statement M
-f32-from-bits-spec = tie.close (tie.spec float-from-bits-result returns returns-2)
+f32-from-bits-spec = tie.close (tie.spec float-from-bits-result returns (search needs))

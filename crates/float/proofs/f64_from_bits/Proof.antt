@@ -11,8 +11,5 @@ float-from-bits-result c = up-to-infinity binary64 _ (c .if1 .left)
 returns : tie.Need-returns
 returns c = above-infinity binary64 _ (c .if1 .taken)
 
-returns-2 : tie.Need-returns-2
-returns-2 c = search needs
-
 pub f64-from-bits-spec : {M : Type 1} → statement M
-f64-from-bits-spec = tie.close (tie.spec float-from-bits-result returns returns-2)
+f64-from-bits-spec = tie.close (tie.spec float-from-bits-result returns (search needs))

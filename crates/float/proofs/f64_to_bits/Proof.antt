@@ -11,8 +11,5 @@ float-to-bits-result c = equals-is-none _ (c .if1 .left)
 returns : tie.Need-returns
 returns c = differs-is-nan binary64 _ (c .if1 .taken)
 
-returns-2 : tie.Need-returns-2
-returns-2 c = search needs
-
 pub f64-to-bits-spec : {M : Type 1} → statement M
-f64-to-bits-spec = tie.close (tie.spec float-to-bits-result returns returns-2)
+f64-to-bits-spec = tie.close (tie.spec float-to-bits-result returns (search needs))

@@ -20,15 +20,6 @@ digits c = leading (c .before .args .n) (c .if1 .left) (search needs)
 sub-k : tie.Need-sub-k
 sub-k c = omega (arith, digits c .few)
 
-cast-k : tie.Need-cast-k
-cast-k c = search needs
-
-add-f32-from-bits : tie.Need-add-f32-from-bits
-add-f32-from-bits c = search needs
-
-mul-f32-from-bits : tie.Need-mul-f32-from-bits
-mul-f32-from-bits c = search needs
-
 rounding-shift-requires : tie.Need-rounding-shift-requires
 rounding-shift-requires c κs = (omega (arith, digits c .few), omega arith)
 
@@ -40,9 +31,6 @@ add-f32-from-bits-2 c = record { fits = omega (arith, pattern-lt c) }
 
 cast-f32-from-bits : tie.Need-cast-f32-from-bits
 cast-f32-from-bits c = record { fits = omega (arith, pattern-lt c) }
-
-f32-from-bits-requires : tie.Need-f32-from-bits-requires
-f32-from-bits-requires c κs = search needs
 
 returns : tie.Need-returns
 unfolding indexFloat
@@ -57,12 +45,12 @@ index-to-float-spec =
     (tie.spec
     int-to-float-result
     sub-k
-    cast-k
-    add-f32-from-bits
-    mul-f32-from-bits
+    (search needs)
+    (search needs)
+    (search needs)
     rounding-shift-requires
     add-f32-from-bits-2
     cast-f32-from-bits
-    f32-from-bits-requires
+    (search needs)
     returns
     returns-2)

@@ -17,26 +17,11 @@ use Rattle.float.proofs.narrow.Tie as tie
 narrowed : (c : tie.After-case-pattern) → narrow (c .before .before .before .args .x) ≡ signed (leb (2 ^ 63) (c .before .before .f64-to-bits .result)) (c .case-pattern .result)
 narrowed c = cc (narrow-bits (c .before .before .before .args .x) (passes _ (c .before .before .before .good .0 .1)))
 
-f64-to-bits-requires : tie.Need-f64-to-bits-requires
-f64-to-bits-requires c κs = search needs
-
-narrow-case-requires : tie.Need-narrow-case-requires
-narrow-case-requires c κs = search needs
-
-case-pattern-requires : tie.Need-case-pattern-requires
-case-pattern-requires c κs = search needs
-
-f32-from-bits-requires : tie.Need-f32-from-bits-requires
-f32-from-bits-requires c κs = search needs
-
 add-f32-from-bits : tie.Need-add-f32-from-bits
 add-f32-from-bits c =
     let p = c .before in
     let e : p .case-pattern .result ≡ casePattern (narrowCase (p .before .before .f64-to-bits .result)) = cc in
     record { fits = omega (arith, pattern-le (p .before .before .f64-to-bits .result)) }
-
-f32-from-bits-requires-2 : tie.Need-f32-from-bits-requires-2
-f32-from-bits-requires-2 c κs = search needs
 
 returns : tie.Need-returns
 returns c = c .f32-from-bits .ensures ∙ sym (rw (lt-leb (2 ^ 63) _ (c .before .if1 .taken), zero-add) at (narrowed (c .before .before)))
@@ -48,11 +33,11 @@ pub narrow-spec : {M : Type 1} → statement M
 narrow-spec =
     tie.close
     (tie.spec
-    f64-to-bits-requires
-    narrow-case-requires
-    case-pattern-requires
-    f32-from-bits-requires
+    (search needs)
+    (search needs)
+    (search needs)
+    (search needs)
     add-f32-from-bits
-    f32-from-bits-requires-2
+    (search needs)
     returns
     returns-2)

@@ -14,9 +14,6 @@ returns-2 : tie.Need-returns-2
 unfolding fieldsCase
 returns-2 c = rw (eq-eqb _ 2047 (c .before .if1 .taken), ne-eqb _ 0 (c .if2 .left))
 
-narrow-pattern-requires : tie.Need-narrow-pattern-requires
-narrow-pattern-requires c κs = search needs
-
 finite : (c : tie.After-narrow-pattern) → narrowCase (c .before .before .args .b) ≡ finiteCase (c .narrow-pattern .result)
 unfolding fieldsCase
 finite c = rw (ne-eqb _ 2047 (c .before .if1 .left), c .narrow-pattern .ensures)
@@ -25,15 +22,9 @@ returns-3 : tie.Need-returns-3
 unfolding finiteCase
 returns-3 c = rw (finite (c .before), le-leb _ _ (c .if3 .taken))
 
-cast-t8 : tie.Need-cast-t8
-cast-t8 c = search needs
-
 returns-4 : tie.Need-returns-4
 unfolding finiteCase
 returns-4 c = rw (finite (c .before .before), lt-leb _ _ (c .before .if3 .left), le-leb _ _ (c .if4 .taken))
-
-cast-t9 : tie.Need-cast-t9
-cast-t9 c = search needs
 
 returns-5 : tie.Need-returns-5
 unfolding finiteCase
@@ -49,10 +40,10 @@ narrow-case-spec =
     (tie.spec
     returns
     returns-2
-    narrow-pattern-requires
+    (search needs)
     returns-3
-    cast-t8
+    (search needs)
     returns-4
-    cast-t9
+    (search needs)
     returns-5
     returns-6)

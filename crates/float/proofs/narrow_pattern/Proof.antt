@@ -8,26 +8,8 @@ use borrow.Author.Needs.{needs}
 use Rattle.float.proofs.narrow_pattern.Statement.{statement}
 use Rattle.float.proofs.narrow_pattern.Tie as tie
 
-mul-result : tie.Need-mul-result
-mul-result c = search needs
-
-add-rounding-shift : tie.Need-add-rounding-shift
-add-rounding-shift c = search needs
-
-rounding-shift-requires : tie.Need-rounding-shift-requires
-rounding-shift-requires c κs = search needs
-
 add-result : tie.Need-add-result
 add-result c = record { fits = omega (arith, c .rounding-shift .ensures, closest-le (significand (c .before .before .args .fraction)) (2 ^ 29)) }
-
-add-rounding-shift-2 : tie.Need-add-rounding-shift-2
-add-rounding-shift-2 c = search needs
-
-sub-rounding-shift : tie.Need-sub-rounding-shift
-sub-rounding-shift c = search needs
-
-rounding-shift-requires-2 : tie.Need-rounding-shift-requires-2
-rounding-shift-requires-2 c κs = search needs
 
 returns : tie.Need-returns
 unfolding narrowPattern
@@ -45,13 +27,13 @@ pub narrow-pattern-spec : {M : Type 1} → statement M
 narrow-pattern-spec =
     tie.close
     (tie.spec
-    mul-result
-    add-rounding-shift
-    rounding-shift-requires
+    (search needs)
+    (search needs)
+    (search needs)
     add-result
-    add-rounding-shift-2
-    sub-rounding-shift
-    rounding-shift-requires-2
+    (search needs)
+    (search needs)
+    (search needs)
     returns
     returns-2
     returns-3)

@@ -10,12 +10,6 @@ use Rattle.float.proofs.Rounding.{closest-down, closest-tie, closest-up
 use Rattle.float.proofs.rounding_shift.Statement.{statement}
 use Rattle.float.proofs.rounding_shift.Tie as tie
 
-shl-unit : tie.Need-shl-unit
-shl-unit c = search needs
-
-shr-quotient : tie.Need-shr-quotient
-shr-quotient c = search needs
-
 unit : (k : ℕ) → k < 64 → 1 * 2 ^ k % 2 ^ 64 ≡ 2 ^ k
 unit k h = rw (one-mul (2 ^ k)) (mod-eq-of-lt (pow-lt h))
 
@@ -60,8 +54,8 @@ pub rounding-shift-spec : {M : Type 1} → statement M
 rounding-shift-spec =
     tie.close
     (tie.spec
-    shl-unit
-    shr-quotient
+    (search needs)
+    (search needs)
     rem-remainder
     add-result
     add-result-2
