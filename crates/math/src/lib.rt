@@ -5,7 +5,7 @@ use model::Row;
 ghost use mathlib.Core.Path.{_≡_};
 ghost use Rattle.model.specs.Numbers.{firstGuess, invSqrt};
 ghost use Rattle.model.specs.Rotations.{quaternion, dot, scaled, secondWeight, weightedSum, lerpQuaternion, productRow, product, quaternionToMatrix, fromTrace, fromDiagonal, matrixToQuaternion};
-ghost use Rattle.math.specs.Scaling.{scaledByRoot};
+ghost use Rattle.math.specs.Scaling.{scaledByRoot, turnedRow, turned, turnedBack};
 
 // inv_sqrt's first guess, on bit patterns. The Rust shifts and subtracts a signed number; here its top bit is copied and the subtraction is
 // u32's wrapping one, which gives the same 32 bits.
@@ -133,7 +133,7 @@ fn from_trace(m: Matrix4, trace: f32) -> Unscaled
     Unscaled { t, q }
 }
 
-// By diagonal entry 0. The Rust's i, j and k are written out for each of the three, so that no index is looked up.
+// By diagonal entry 0, with 1 and 2 the next ones.
 fn from_diagonal_0(m: Matrix4) -> Unscaled
     ensures { λ r. ⌜ scaledByRoot r ≡ fromDiagonal m 0 1 2 (λ w qi qj qk. quaternion w qi qj qk) ⌝ }
 {
@@ -147,30 +147,52 @@ fn from_diagonal_0(m: Matrix4) -> Unscaled
     Unscaled { t, q }
 }
 
+// The cycle 0, 1, 2 turned by one, so that entry 1 of m is entry 0 here. The Rust looks i, j and k up in a table instead.
+fn turned_row(r: Row) -> Row
+    ensures { λ s. ⌜ s ≡ turnedRow r ⌝ }
+{
+    Row {
+        c0: r.c1,
+        c1: r.c2,
+        c2: r.c0,
+        c3: r.c3,
+    }
+}
+
+fn turned(m: Matrix4) -> Matrix4
+    ensures { λ r. ⌜ r ≡ turned m ⌝ }
+{
+    let r3 = m.r3;
+    Matrix4 {
+        r0: turned_row(m.r1),
+        r1: turned_row(m.r2),
+        r2: turned_row(m.r0),
+        r3,
+    }
+}
+
+fn turned_back(u: Unscaled) -> Unscaled
+    ensures { λ r. ⌜ r ≡ turnedBack u ⌝ }
+{
+    let q = Quaternion {
+        w: u.q.w,
+        x: u.q.z,
+        y: u.q.x,
+        z: u.q.y,
+    };
+    Unscaled { t: u.t, q }
+}
+
 fn from_diagonal_1(m: Matrix4) -> Unscaled
     ensures { λ r. ⌜ scaledByRoot r ≡ fromDiagonal m 1 2 0 (λ w qi qj qk. quaternion w qk qi qj) ⌝ }
 {
-    let t = (m.r1.c1 - (m.r2.c2 + m.r0.c0)) + 1.0;
-    let q = Quaternion {
-        w: m.r2.c0 - m.r0.c2,
-        x: m.r1.c0 + m.r0.c1,
-        y: t,
-        z: m.r1.c2 + m.r2.c1,
-    };
-    Unscaled { t, q }
+    turned_back(from_diagonal_0(turned(m)))
 }
 
 fn from_diagonal_2(m: Matrix4) -> Unscaled
     ensures { λ r. ⌜ scaledByRoot r ≡ fromDiagonal m 2 0 1 (λ w qi qj qk. quaternion w qj qk qi) ⌝ }
 {
-    let t = (m.r2.c2 - (m.r0.c0 + m.r1.c1)) + 1.0;
-    let q = Quaternion {
-        w: m.r0.c1 - m.r1.c0,
-        x: m.r2.c0 + m.r0.c2,
-        y: m.r2.c1 + m.r1.c2,
-        z: t,
-    };
-    Unscaled { t, q }
+    turned_back(from_diagonal_1(turned(m)))
 }
 
 fn unscaled_rotation(m: Matrix4) -> Unscaled
