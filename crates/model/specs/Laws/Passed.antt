@@ -1,14 +1,14 @@
 -- Facts about a plan whose check accepted.
-use Prim.Native.Nat.{ℕ, _≤_, _<_}
+use Prim.Native.Nat.{ℕ, _-_, _≤_, _<_}
 use mathlib.Core.Path.{_≡_, refl}
-use mathlib.Core.Bool.{Bool, true, false, _&&_, _||_}
+use mathlib.Core.Bool.{Bool, true, false, not, _&&_, _||_}
 use mathlib.Core.List.{List}
 use lib.ListN.{length}
-use lib.Dec.{ltb}
+use lib.Dec.{ltb, leb, eqb}
 use borrow.Author.Tests.{ltb-true, leb-true, eqb-true}
 use Rattle.model.specs.Answers.{accepted, each}
-use Rattle.model.specs.Plan.{jointCount, clipCount, parameterCount, stateCount, initialState, initialStateAt, parentAt, parent, isRoot, sampleCountAt, sampleCount, stateAt, nodeCount, nodeParameterAt, isClip, inputA, inputB, transitionCountAt, transitionCount, targetStateAt, conditionParameter, targetState, numbersLength}
-use Rattle.model.specs.Check.{wordIs, within, check, checkHeader, checkParent, checkSampleCount, checkNode, checkState, checkTransition}
+use Rattle.model.specs.Plan.{maxJoints, maxClips, maxStates, maxSamples, maxNodes, maxTransitions, maxClipNodes, jointCount, clipCount, parameterCount, stateCount, initialState, initialStateAt, parentAt, parent, isRoot, sampleCountAt, sampleCount, stateAt, nodeCount, nodeParameterAt, isClip, inputA, inputB, nodeParameter, clipNode, transitionCountAt, transitionCount, targetStateAt, conditionParameter, targetState, numbersLength}
+use Rattle.model.specs.Check.{wordIs, within, used, check, checkHeader, checkParent, checkSampleCount, checkNode, checkState, checkTransition}
 use Rattle.model.specs.Laws.Answers.{then-left, then-right, each-at, require-true}
 use Rattle.model.specs.Unseen.{Reachable, initial, target}
 
@@ -33,6 +33,18 @@ and-right false b e = cc
 or-right : (a b : Bool) → a || b ≡ true → a ≡ false → b ≡ true
 or-right true b e f = cc
 or-right false b e f = e
+
+not-true : (a : Bool) → not a ≡ true → a ≡ false
+not-true true e = cc
+not-true false e = refl
+
+within-low : (low x high : ℕ) → within low x high ≡ true → low ≤ x
+unfolding within
+within-low low x high e = leb-true low x (and-left (leb low x) (leb x high) e)
+
+within-high : (low x high : ℕ) → within low x high ≡ true → x ≤ high
+unfolding within
+within-high low x high e = leb-true x high (and-right (leb low x) (leb x high) e)
 
 -- ---- of a plan
 
@@ -64,8 +76,12 @@ module _ (plan : List ℕ) (n : ℕ) (ok : check plan n ≡ accepted) where
   parent-earlier j h e = ltb-true _ _ (or-right (isRoot plan j) (ltb (parent plan j) j) (word-true _ _ _ _ (each-at _ _ parents-passed j h)) e)
 
   pub some-samples : (c : ℕ) → c < clipCount plan → 0 < sampleCount plan c
-  unfolding checkSampleCount within
-  some-samples c h = leb-true _ _ (and-left _ _ (word-true _ _ _ _ (each-at _ _ counts-passed c h)))
+  unfolding checkSampleCount
+  some-samples c h = within-low _ _ _ (word-true _ _ _ _ (each-at _ _ counts-passed c h))
+
+  pub few-samples : (c : ℕ) → c < clipCount plan → sampleCount plan c ≤ maxSamples
+  unfolding checkSampleCount
+  few-samples c h = within-high _ _ _ (word-true _ _ _ _ (each-at _ _ counts-passed c h))
 
   module _ (s : ℕ) (below : s < stateCount plan) where
     state-passed : checkState plan s ≡ accepted
@@ -95,6 +111,48 @@ module _ (plan : List ℕ) (n : ℕ) (ok : check plan n ≡ accepted) where
     unfolding checkNode
     b-earlier i h e = ltb-true _ _ (and-left _ _ (and-left _ _ (rw e at (word-true _ _ _ _ (then-right _ _ (then-left _ _ (node-passed i h)))))))
 
+    pub parameter-below : (i : ℕ) → i < nodeCount plan s → isClip plan s i ≡ false → nodeParameter plan s i < parameterCount plan
+    unfolding checkNode
+    parameter-below i h e = ltb-true _ _ (rw e at (word-true _ _ _ _ (then-right _ _ (node-passed i h))))
+
+    -- ---- no node is an input twice, and all but the root are one
+
+    pub a-unused : (i : ℕ) → i < nodeCount plan s → isClip plan s i ≡ false → used plan s i (inputA plan s i) ≡ false
+    unfolding checkNode
+    a-unused i h e = not-true _ (and-right (ltb (inputA plan s i) i) _ (rw e at (word-true _ _ _ _ (then-right _ _ (then-left _ _ (then-left _ _ (node-passed i h)))))))
+
+    b-tests : (i : ℕ) → i < nodeCount plan s → isClip plan s i ≡ false → ltb (inputB plan s i) i && not (used plan s i (inputB plan s i)) && not (eqb (inputA plan s i) (inputB plan s i)) ≡ true
+    unfolding checkNode
+    b-tests i h e = rw e at (word-true _ _ _ _ (then-right _ _ (then-left _ _ (node-passed i h))))
+
+    pub b-unused : (i : ℕ) → i < nodeCount plan s → isClip plan s i ≡ false → used plan s i (inputB plan s i) ≡ false
+    b-unused i h e = not-true _ (and-right (ltb (inputB plan s i) i) _ (and-left _ (not (eqb (inputA plan s i) (inputB plan s i))) (b-tests i h e)))
+
+    pub inputs-differ : (i : ℕ) → i < nodeCount plan s → isClip plan s i ≡ false → eqb (inputA plan s i) (inputB plan s i) ≡ false
+    inputs-differ i h e = not-true _ (and-right (ltb (inputB plan s i) i && not (used plan s i (inputB plan s i))) _ (b-tests i h e))
+
+    pub all-used : (k : ℕ) → k < nodeCount plan s - 1 → used plan s (nodeCount plan s) k ≡ true
+    unfolding checkState
+    all-used k h = require-true _ _ _ (each-at _ _ (then-right _ _ (then-left _ _ (then-left _ _ state-passed))) k h)
+
+    -- ---- counts
+
+    pub some-nodes : 0 < nodeCount plan s
+    unfolding checkState
+    some-nodes = within-low _ _ _ (word-true _ _ _ _ (then-left _ _ (then-left _ _ (then-left _ _ (then-left _ _ state-passed)))))
+
+    pub few-nodes : nodeCount plan s ≤ maxNodes
+    unfolding checkState
+    few-nodes = within-high _ _ _ (word-true _ _ _ _ (then-left _ _ (then-left _ _ (then-left _ _ (then-left _ _ state-passed)))))
+
+    pub few-transitions : transitionCount plan s ≤ maxTransitions
+    unfolding checkState
+    few-transitions = leb-true _ _ (word-true _ _ _ _ (then-right _ _ (then-left _ _ state-passed)))
+
+    pub few-clip-nodes : (i : ℕ) → i < nodeCount plan s → isClip plan s i ≡ true → clipNode plan s i < maxClipNodes
+    unfolding checkNode
+    few-clip-nodes i h e = ltb-true _ _ (rw e at (require-true _ _ _ (then-right _ _ (then-left _ _ (then-left _ _ (then-left _ _ (node-passed i h)))))))
+
     -- ---- every word is there
 
     pub state-there : stateAt plan s < length plan
@@ -116,6 +174,22 @@ module _ (plan : List ℕ) (n : ℕ) (ok : check plan n ≡ accepted) where
   pub header-there : initialStateAt < length plan
   unfolding checkHeader
   header-there = word-there _ _ _ _ (then-right _ _ header-passed)
+
+  pub some-joints : 0 < jointCount plan
+  unfolding checkHeader
+  some-joints = within-low _ _ _ (word-true _ _ _ _ (then-left _ _ (then-left _ _ (then-left _ _ (then-left _ _ header-passed)))))
+
+  pub few-joints : jointCount plan ≤ maxJoints
+  unfolding checkHeader
+  few-joints = within-high _ _ _ (word-true _ _ _ _ (then-left _ _ (then-left _ _ (then-left _ _ (then-left _ _ header-passed)))))
+
+  pub few-clips : clipCount plan ≤ maxClips
+  unfolding checkHeader
+  few-clips = within-high _ _ _ (word-true _ _ _ _ (then-right _ _ (then-left _ _ (then-left _ _ (then-left _ _ header-passed)))))
+
+  pub few-states : stateCount plan ≤ maxStates
+  unfolding checkHeader
+  few-states = within-high _ _ _ (word-true _ _ _ _ (then-right _ _ (then-left _ _ header-passed)))
 
   pub few-parameters : parameterCount plan ≤ 32
   unfolding checkHeader
