@@ -3,6 +3,8 @@ pub mod Opened
 pub mod Table
 pub mod Totals
 pub mod Answers
+pub mod Tests
+pub mod State
 pub mod Passed
 pub mod Numbers
 pub mod ClipNodes

@@ -13,7 +13,8 @@ use Rattle.model.specs.Plan.{clipCount, stateCount, transitionCount, sampleCoun
 use Rattle.model.specs.Check.{check}
 use Rattle.model.specs.Clips.{firstIndex, secondIndex, duration, poseAt, clipPose}
 use Rattle.model.specs.Unseen.{Reachable, Played, plays, InPlan, Unseen}
-use Rattle.model.specs.Laws.Passed.{numbers-fit, some-samples, clip-below, reachable-below}
+use Rattle.model.specs.Laws.Passed.{numbers-fit, some-samples, state-passed, reachable-below}
+use Rattle.model.specs.Laws.State.{clip-below}
 use Rattle.model.specs.Laws.Numbers.{number-inside, one-name}
 use Rattle.noninterference.specs.Alike.{Closed, AlikeNumbers}
 
@@ -38,7 +39,7 @@ module _ (plan chosen : List ℕ) (a b : List Float) (ok : check plan (length a)
   -- ---- clips that are played, at chosen joints
 
   played-below : {c : ℕ} → Played plan c → c < clipCount plan
-  played-below (plays r i h e) = clip-below plan (length a) ok _ (below r) i h e
+  played-below (plays r i h e) = clip-below plan _ (state-passed plan (length a) ok _ (below r)) i h e
 
   rate-same : {c : ℕ} → Played plan c → number plan a (Rate c) ≡ number plan b (Rate c)
   rate-same {c} p = seen-same (Rate c) (played-below p) (λ u. u p)

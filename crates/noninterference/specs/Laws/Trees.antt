@@ -15,7 +15,9 @@ use Rattle.model.specs.Check.{check}
 use Rattle.model.specs.Clips.{localTime, setPlaybackRate, instanceAt, clipPose}
 use Rattle.model.specs.Tree.{rateSet, isTouched, nodeLength, nodeTarget, inputSynchronized, synchronizeNode, synchronizeNodes, synchronize, nodePose, nodePoses, statePose}
 use Rattle.model.specs.Unseen.{Reachable, plays, Read, byNode}
-use Rattle.model.specs.Laws.Passed.{a-earlier, b-earlier, and-left, and-right}
+use Rattle.model.specs.Laws.Passed.{state-passed}
+use Rattle.model.specs.Laws.State.{a-earlier, b-earlier}
+use Rattle.model.specs.Laws.Tests.{and-left, and-right}
 use Rattle.model.specs.Laws.ClipNodes.{same-state}
 use Rattle.model.specs.Laws.Table.{table-same}
 use Rattle.noninterference.specs.Alike.{Closed, AlikeNumbers}
@@ -90,10 +92,10 @@ module _ (plan chosen : List ℕ) (a b : List Float) (ok : check plan (length a)
       b-clip = and-right (isClip plan s (inputA plan s i)) (isClip plan s (inputB plan s i)) both-clips
 
       a-node : inputA plan s i < nodeCount plan s
-      a-node = omega (arith, a-earlier plan (length a) ok s below i h no-clip)
+      a-node = omega (arith, a-earlier plan s (state-passed plan (length a) ok s below) i h no-clip)
 
       b-node : inputB plan s i < nodeCount plan s
-      b-node = omega (arith, b-earlier plan (length a) ok s below i h no-clip)
+      b-node = omega (arith, b-earlier plan s (state-passed plan (length a) ok s below) i h no-clip)
 
       target-same : Reachable plan s → nodeTarget plan a l time s i ≡ nodeTarget plan b m time s i
       unfolding nodeTarget
