@@ -1,0 +1,2 @@
+-- What a lane is
+pub mod Lanes

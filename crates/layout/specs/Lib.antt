@@ -1,0 +1,2 @@
+-- What the layout of a passed plan is
+pub mod Layout

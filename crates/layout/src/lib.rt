@@ -1,0 +1,180 @@
+// Where the words and numbers of a plan stand. No other crate adds up places; what each one is stands in model's Plan.
+ghost use mathlib.Core.Path.{_≡_};
+ghost use Prim.Native.Nat.{_+_, _*_, _<_, _≤_};
+ghost use lib.ListN.{length, getD};
+ghost use lib.Ieee.{nan};
+ghost use Rattle.model.specs.Plan.{word, parentAt, parent, sampleCount, samplesBefore, clipCount, jointCount, stateCount, number, Rate, Value, Duration};
+ghost use Rattle.layout.specs.Layout.{layoutOf, stateLayout, nodeOf, conditionOf, Passes, InPlan};
+
+// What the check finds in a plan that passes.
+pub struct Layout {
+    pub joints: usize,
+    pub clips: usize,
+    pub states: usize,
+    pub initial: usize,
+    // The word where the first state begins.
+    pub states_at: usize,
+    // The number where the first pose begins.
+    pub poses_at: usize,
+}
+
+// One state of such a plan.
+pub struct StateLayout {
+    pub state: usize,
+    pub nodes_at: usize,
+    pub nodes: usize,
+    pub transitions_at: usize,
+    pub transitions: usize,
+    // The number that is its first transition's value.
+    pub values_at: usize,
+    // How many clip nodes the states before it have: the instance of its own first one.
+    pub clip_node: usize,
+}
+
+pub struct Node {
+    pub kind: usize,
+    pub a: usize,
+    pub b: usize,
+    pub parameter: usize,
+}
+
+pub struct Condition {
+    pub parameter: usize,
+    pub operator: usize,
+    pub target: usize,
+}
+
+// A word, 0 past the end.
+pub fn word(plan: &[u16], i: usize) -> usize
+    ensures { λ r. ⌜ (r ≡ word (now (plan .entry)) i) × (r < 65536) ⌝ }
+{
+    if i < plan.len() { plan[i] as usize } else { 0 }
+}
+
+// Of a joint that the plan has.
+pub fn parent(plan: &[u16], j: usize) -> usize
+    requires { ⌜ parentAt j < length (now plan) ⌝ }
+    ensures { λ r. ⌜ r ≡ parent (now (plan .entry)) j ⌝ }
+{
+    plan[5 + j] as usize
+}
+
+// Of a clip that the plan has. N is read without a test.
+pub fn sample_count(plan: &[u16], layout: Layout, c: usize) -> usize
+    requires { ⌜ Passes (now plan) × (layout ≡ layoutOf (now plan)) × (c < clipCount (now plan)) ⌝ }
+    ensures { λ r. ⌜ r ≡ sampleCount (now (plan .entry)) c ⌝ }
+{
+    plan[5 + layout.joints + c] as usize
+}
+
+// How many samples the clips before c have. The check asks too, before it knows that the plan passes.
+pub fn samples_before(plan: &[u16], joints: usize, c: usize) -> usize
+    requires { ⌜ (joints ≡ jointCount (now plan)) × (joints < 65536) × (c < 65536) ⌝ }
+    ensures { λ r. ⌜ (r ≡ samplesBefore (now (plan .entry)) c) × (r ≤ c * 65536) ⌝ }
+{
+    let mut sum = 0;
+    let mut k = 0;
+    while k < c {
+        sum += word(plan, 5 + joints + k);
+        k += 1;
+    }
+    sum
+}
+
+// A scan over the states before it. A tree of K nodes has (K + 1) / 2 clip nodes, so it need not look at them.
+pub fn state_layout(plan: &[u16], layout: Layout, state: usize) -> StateLayout
+    requires { ⌜ Passes (now plan) × (layout ≡ layoutOf (now plan)) × (state < stateCount (now plan)) ⌝ }
+    ensures { λ r. ⌜ r ≡ stateLayout (now (plan .entry)) state ⌝ }
+{
+    let mut at = layout.states_at;
+    let mut values_at = layout.clips;
+    let mut clip_node = 0;
+    let mut s = 0;
+    while s < state {
+        let nodes = plan[at] as usize;
+        let transitions_at = at + 1 + 4 * nodes;
+        let transitions = plan[transitions_at] as usize;
+        clip_node += (nodes + 1) / 2;
+        values_at += 2 * transitions;
+        at = transitions_at + 1 + 3 * transitions;
+        s += 1;
+    }
+    let nodes = plan[at] as usize;
+    let transitions_at = at + 1 + 4 * nodes;
+    StateLayout {
+        state: state,
+        nodes_at: at + 1,
+        nodes: nodes,
+        transitions_at: transitions_at + 1,
+        transitions: plan[transitions_at] as usize,
+        values_at: values_at,
+        clip_node: clip_node,
+    }
+}
+
+// Of a node that the state has.
+pub fn node_at(plan: &[u16], here: StateLayout, i: usize) -> Node
+    requires { ⌜ Passes (now plan) × InPlan (now plan) here × (i < here .nodes) ⌝ }
+    ensures { λ r. ⌜ r ≡ nodeOf (now (plan .entry)) (here .state) i ⌝ }
+{
+    let at = here.nodes_at + 4 * i;
+    Node {
+        kind: plan[at] as usize,
+        a: plan[at + 1] as usize,
+        b: plan[at + 2] as usize,
+        parameter: plan[at + 3] as usize,
+    }
+}
+
+// Of a transition that the state has.
+pub fn condition_at(plan: &[u16], here: StateLayout, t: usize) -> Condition
+    requires { ⌜ Passes (now plan) × InPlan (now plan) here × (t < here .transitions) ⌝ }
+    ensures { λ r. ⌜ r ≡ conditionOf (now (plan .entry)) (here .state) t ⌝ }
+{
+    let at = here.transitions_at + 3 * t;
+    Condition {
+        parameter: plan[at] as usize,
+        operator: plan[at + 1] as usize,
+        target: plan[at + 2] as usize,
+    }
+}
+
+// A number, NaN past the end.
+pub fn number(numbers: &[f32], i: usize) -> f32
+    ensures { λ r. ⌜ r ≡ getD (now (numbers .entry)) i nan ⌝ }
+{
+    if i < numbers.len() {
+        numbers[i]
+    } else {
+        0.0 / 0.0
+    }
+}
+
+pub fn rate(plan: &[u16], numbers: &[f32], c: usize) -> f32
+    ensures { λ r. ⌜ r ≡ number (now (plan .entry)) (now (numbers .entry)) (Rate c) ⌝ }
+{
+    number(numbers, c)
+}
+
+// The value that a transition's condition compares with.
+pub fn value(plan: &[u16], numbers: &[f32], here: StateLayout, t: usize) -> f32
+    requires { ⌜ Passes (now plan) × InPlan (now plan) here × (t < here .transitions) ⌝ }
+    ensures { λ r. ⌜ r ≡ number (now (plan .entry)) (now (numbers .entry)) (Value (here .state) t) ⌝ }
+{
+    number(numbers, here.values_at + 2 * t)
+}
+
+pub fn duration(plan: &[u16], numbers: &[f32], here: StateLayout, t: usize) -> f32
+    requires { ⌜ Passes (now plan) × InPlan (now plan) here × (t < here .transitions) ⌝ }
+    ensures { λ r. ⌜ r ≡ number (now (plan .entry)) (now (numbers .entry)) (Duration (here .state) t) ⌝ }
+{
+    number(numbers, here.values_at + 2 * t + 1)
+}
+
+// Where a sample's pose of a joint begins. The sample is counted over all clips.
+pub fn pose_at(layout: Layout, sample: usize, joint: usize) -> usize
+    requires { ⌜ (layout .joints ≤ 64) × (layout .«poses_at» < 65536) × (sample < 16777216) × (joint ≤ 64) ⌝ }
+    ensures { λ r. ⌜ r ≡ layout .«poses_at» + (sample * layout .joints + joint) * 8 ⌝ }
+{
+    layout.poses_at + (sample * layout.joints + joint) * 8
+}
