@@ -6,6 +6,19 @@ ghost use lib.Ieee.{nan};
 ghost use Rattle.model.specs.Plan.{word, parentAt, parent, sampleCount, samplesBefore, clipCount, jointCount, stateCount, number, Rate, Value, Duration};
 ghost use Rattle.layout.specs.Layout.{layoutOf, stateLayout, nodeOf, conditionOf, Passes, InPlan};
 
+// The header's words, and the first parent.
+pub const JOINT_COUNT_AT: usize = 0;
+
+pub const CLIP_COUNT_AT: usize = 1;
+
+pub const PARAMETER_COUNT_AT: usize = 2;
+
+pub const STATE_COUNT_AT: usize = 3;
+
+pub const INITIAL_STATE_AT: usize = 4;
+
+pub const PARENTS_AT: usize = 5;
+
 // What the check finds in a plan that passes.
 pub struct Layout {
     pub joints: usize,
@@ -56,7 +69,7 @@ pub fn parent(plan: &[u16], j: usize) -> usize
     requires { ⌜ parentAt j < length (now plan) ⌝ }
     ensures { λ r. ⌜ r ≡ parent (now (plan .entry)) j ⌝ }
 {
-    plan[5 + j] as usize
+    plan[PARENTS_AT + j] as usize
 }
 
 // Of a clip that the plan has. N is read without a test.
@@ -64,7 +77,7 @@ pub fn sample_count(plan: &[u16], layout: Layout, c: usize) -> usize
     requires { ⌜ Passes (now plan) × (layout ≡ layoutOf (now plan)) × (c < clipCount (now plan)) ⌝ }
     ensures { λ r. ⌜ r ≡ sampleCount (now (plan .entry)) c ⌝ }
 {
-    plan[5 + layout.joints + c] as usize
+    plan[PARENTS_AT + layout.joints + c] as usize
 }
 
 // How many samples the clips before c have. The check asks too, before it knows that the plan passes.
@@ -75,7 +88,7 @@ pub fn samples_before(plan: &[u16], joints: usize, c: usize) -> usize
     let mut sum = 0;
     let mut k = 0;
     while k < c {
-        sum += word(plan, 5 + joints + k);
+        sum += word(plan, PARENTS_AT + joints + k);
         k += 1;
     }
     sum

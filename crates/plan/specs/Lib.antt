@@ -1,0 +1,3 @@
+-- What the check answers, and what its parts find
+pub mod Checked
+pub mod Parts

@@ -1,0 +1,123 @@
+// Single words, and the parts of a plan before its states.
+use layout::CLIP_COUNT_AT;
+use layout::INITIAL_STATE_AT;
+use layout::JOINT_COUNT_AT;
+use layout::PARAMETER_COUNT_AT;
+use layout::PARENTS_AT;
+use layout::STATE_COUNT_AT;
+use layout::word;
+use model::Answer;
+ghost use mathlib.Core.Path.{_≡_};
+ghost use Prim.Native.Nat.{_<_};
+ghost use lib.Dec.{leb, ltb};
+ghost use Rattle.model.specs.Answers.{values, each};
+ghost use Rattle.model.specs.Plan.{word, jointCount};
+ghost use Rattle.model.specs.Check.{within, wordIs, checkHeader, checkParent, checkSampleCount};
+
+// A word that is missing, or fails its test, is refused.
+pub fn word_is(plan: &[u16], number: usize, at: usize, ok: bool) -> Answer
+    ensures { λ r. ⌜ values r ≡ wordIs (now (plan .entry)) number at ok ⌝ }
+{
+    if plan.len() <= at {
+        return Answer::Refused {
+            number: 1,
+            place: plan.len(),
+        };
+    }
+    if ok {
+        return Answer::Accepted;
+    }
+    Answer::Refused {
+        number: number,
+        place: at,
+    }
+}
+
+fn within(low: usize, x: usize, high: usize) -> bool
+    ensures { λ r. ⌜ r ≡ within low x high ⌝ }
+{
+    if x < low { false } else { x <= high }
+}
+
+pub fn word_within(plan: &[u16], number: usize, at: usize, low: usize, high: usize) -> Answer
+    ensures { λ r. ⌜ values r ≡ wordIs (now (plan .entry)) number at (within low (word (now (plan .entry)) at) high) ⌝ }
+{
+    word_is(plan, number, at, within(low, word(plan, at), high))
+}
+
+pub fn word_up_to(plan: &[u16], number: usize, at: usize, high: usize) -> Answer
+    ensures { λ r. ⌜ values r ≡ wordIs (now (plan .entry)) number at (leb (word (now (plan .entry)) at) high) ⌝ }
+{
+    word_is(plan, number, at, word(plan, at) <= high)
+}
+
+pub fn word_below(plan: &[u16], number: usize, at: usize, limit: usize) -> Answer
+    ensures { λ r. ⌜ values r ≡ wordIs (now (plan .entry)) number at (ltb (word (now (plan .entry)) at) limit) ⌝ }
+{
+    word_is(plan, number, at, word(plan, at) < limit)
+}
+
+pub fn check_header(plan: &[u16]) -> Answer
+    ensures { λ r. ⌜ values r ≡ checkHeader (now (plan .entry)) ⌝ }
+{
+    let joints = word_within(plan, 2, JOINT_COUNT_AT, 1, 64);
+    let Answer::Accepted = joints else {
+        return joints;
+    };
+    let clips = word_within(plan, 2, CLIP_COUNT_AT, 1, 16);
+    let Answer::Accepted = clips else {
+        return clips;
+    };
+    let parameters = word_up_to(plan, 2, PARAMETER_COUNT_AT, 32);
+    let Answer::Accepted = parameters else {
+        return parameters;
+    };
+    let states = word_within(plan, 2, STATE_COUNT_AT, 1, 16);
+    let Answer::Accepted = states else {
+        return states;
+    };
+    word_below(plan, 2, INITIAL_STATE_AT, word(plan, STATE_COUNT_AT))
+}
+
+// 255 is a root; any other parent is an earlier joint.
+fn check_parent(plan: &[u16], j: usize) -> Answer
+    requires { ⌜ j < 65536 ⌝ }
+    ensures { λ r. ⌜ values r ≡ checkParent (now (plan .entry)) j ⌝ }
+{
+    let at = PARENTS_AT + j;
+    let parent = word(plan, at);
+    if parent == 255 {
+        return word_is(plan, 3, at, true);
+    }
+    word_is(plan, 3, at, parent < j)
+}
+
+pub fn check_parents(plan: &[u16], joints: usize) -> Answer
+    requires { ⌜ joints < 65536 ⌝ }
+    ensures { λ r. ⌜ values r ≡ each joints (checkParent (now (plan .entry))) ⌝ }
+{
+    let mut j = 0;
+    while j < joints {
+        let parent = check_parent(plan, j);
+        let Answer::Accepted = parent else {
+            return parent;
+        };
+        j += 1;
+    }
+    Answer::Accepted
+}
+
+pub fn check_sample_counts(plan: &[u16], joints: usize, clips: usize) -> Answer
+    requires { ⌜ (joints ≡ jointCount (now plan)) × (joints < 65536) × (clips < 65536) ⌝ }
+    ensures { λ r. ⌜ values r ≡ each clips (checkSampleCount (now (plan .entry))) ⌝ }
+{
+    let mut c = 0;
+    while c < clips {
+        let count = word_within(plan, 2, PARENTS_AT + joints + c, 1, 4096);
+        let Answer::Accepted = count else {
+            return count;
+        };
+        c += 1;
+    }
+    Answer::Accepted
+}
