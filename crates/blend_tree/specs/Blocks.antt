@@ -1,0 +1,41 @@
+-- What functions over blocks of joints ask and promise: each lane of a block is the pose that model defines for one joint. Definitions only.
+use Prim.Native.Nat.{ℕ, suc, _+_, _≤_, _<_}
+use mathlib.Core.Path.{_≡_}
+use mathlib.Core.List.{List}
+use lib.ListN.{length, getD}
+use lib.Ieee.{Float}
+use Rattle.model.specs.declared.Pose.{Pose}
+use Rattle.model.specs.Answers.{accepted}
+use Rattle.model.specs.Plan.{jointCount, nodeCount, isClip, clipNode}
+use Rattle.model.specs.Check.{check}
+use Rattle.model.specs.Pose.{identityPose}
+use Rattle.model.specs.Tree.{nodePoses}
+use Rattle.layout.specs.declared.Layout.{Layout}
+use Rattle.layout.specs.declared.StateLayout.{StateLayout}
+use Rattle.layout.specs.Layout.{layoutOf, InPlan}
+use Rattle.lanes.specs.Lanes.{blockSize, laneAt}
+
+-- lane i of the first `count` is the pose f i
+abbrev pub Filled : (ℕ → Pose) → ℕ → List Float → Type 0
+Filled f count block = (i : ℕ) → i < count → laneAt block i ≡ f i
+
+-- ---- what is asked
+
+-- the plan passed with these numbers, and this is its layout
+pub record Playable (plan : List ℕ) (numbers : List Float) (layout : Layout) : Type 0 where
+  pub passed : check plan (length numbers) ≡ accepted
+  pub found : layout ≡ layoutOf plan
+
+-- `count` joints of the plan from `first` on make up a block
+pub record InBlock (plan : List ℕ) (first count : ℕ) : Type 0 where
+  pub small : count ≤ blockSize
+  pub inside : first + count ≤ jointCount plan
+
+-- slot i holds the number of the clip node that is node i of state s, wherever node i is a clip
+pub record Slots (plan : List ℕ) (s : ℕ) (slots : List ℕ) : Type 0 where
+  pub slot : (i : ℕ) → i < nodeCount plan s → getD slots i 0 ≡ clipNode plan s i
+
+-- ---- the pose of node i of a state at joint j
+
+abbrev pub poseOfNode : List ℕ → List Float → List Float → Float → ℕ → List Float → ℕ → ℕ → Pose
+poseOfNode plan numbers parameters time s instances i j = getD (nodePoses plan numbers parameters time s instances j (suc i)) i identityPose

@@ -1,0 +1,2 @@
+-- Blocks of poses of a tree's nodes
+pub mod Blocks

@@ -1,0 +1,2 @@
+-- Matrices inside a list of floats
+pub mod Buffer

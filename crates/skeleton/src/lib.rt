@@ -1,0 +1,180 @@
+// Ports skeleton.rs: the joints' global matrices, written into the caller's buffer; and page matrices.
+use lanes::lane;
+use layout::parent;
+use math::row_mat4_mul;
+use model::Matrix4;
+use model::Pose;
+use model::Row;
+use transform::to_matrix;
+ghost use mathlib.Core.Path.{_≡_};
+ghost use mathlib.Core.Bool.{false};
+ghost use Prim.Native.Nat.{_+_, _*_, _<_, _≤_};
+ghost use lib.ListN.{length, drop};
+ghost use Rattle.model.specs.Rotations.{identityMatrix, floats, product};
+ghost use Rattle.model.specs.Pose.{toMatrix};
+ghost use Rattle.model.specs.Plan.{jointCount, parentAt, parent, isRoot, outputAt};
+ghost use Rattle.model.specs.Skeleton.{pageMatrix};
+ghost use Rattle.layout.specs.Layout.{Passes};
+ghost use Rattle.lanes.specs.Lanes.{blockSize, laneAt};
+ghost use Rattle.skeleton.specs.Buffer.{rowFrom, matrixFrom, rowFloats, stored, parentIn, GlobalPoses, Paged};
+
+// Where joint j's matrix begins in the output.
+pub fn output_at(j: usize) -> usize
+    requires { ⌜ j < 65536 ⌝ }
+    ensures { λ r. ⌜ r ≡ outputAt j ⌝ }
+{
+    16 * j
+}
+
+fn identity_matrix() -> Matrix4
+    ensures { λ r. ⌜ r ≡ identityMatrix ⌝ }
+{
+    Matrix4 {
+        r0: Row {
+            c0: 1.0,
+            c1: 0.0,
+            c2: 0.0,
+            c3: 0.0,
+        },
+        r1: Row {
+            c0: 0.0,
+            c1: 1.0,
+            c2: 0.0,
+            c3: 0.0,
+        },
+        r2: Row {
+            c0: 0.0,
+            c1: 0.0,
+            c2: 1.0,
+            c3: 0.0,
+        },
+        r3: Row {
+            c0: 0.0,
+            c1: 0.0,
+            c2: 0.0,
+            c3: 1.0,
+        },
+    }
+}
+
+fn row_at(buffer: &[f32], at: usize) -> Row
+    requires { ⌜ at + 4 ≤ length (now buffer) ⌝ }
+    ensures { λ r. ⌜ r ≡ rowFrom (drop at (now (buffer .entry))) ⌝ }
+{
+    Row {
+        c0: buffer[at],
+        c1: buffer[at + 1],
+        c2: buffer[at + 2],
+        c3: buffer[at + 3],
+    }
+}
+
+fn matrix_at(buffer: &[f32], at: usize) -> Matrix4
+    requires { ⌜ at + 16 ≤ length (now buffer) ⌝ }
+    ensures { λ r. ⌜ r ≡ matrixFrom (drop at (now (buffer .entry))) ⌝ }
+{
+    Matrix4 {
+        r0: row_at(buffer, at),
+        r1: row_at(buffer, at + 4),
+        r2: row_at(buffer, at + 8),
+        r3: row_at(buffer, at + 12),
+    }
+}
+
+fn set_row(buffer: &mut [f32], at: usize, r: Row)
+    requires { ⌜ at + 4 ≤ length (now buffer) ⌝ }
+    ensures { λ _. ⌜ now (buffer .exit) ≡ stored (now (buffer .entry)) at (rowFloats r) ⌝ }
+{
+    buffer[at] = r.c0;
+    buffer[at + 1] = r.c1;
+    buffer[at + 2] = r.c2;
+    buffer[at + 3] = r.c3;
+}
+
+fn set_matrix(buffer: &mut [f32], at: usize, m: Matrix4)
+    requires { ⌜ at + 16 ≤ length (now buffer) ⌝ }
+    ensures { λ _. ⌜ now (buffer .exit) ≡ stored (now (buffer .entry)) at (floats m) ⌝ }
+{
+    let r0 = m.r0;
+    let r1 = m.r1;
+    let r2 = m.r2;
+    let r3 = m.r3;
+    set_row(buffer, at, r0);
+    set_row(buffer, at + 4, r1);
+    set_row(buffer, at + 8, r2);
+    set_row(buffer, at + 12, r3);
+}
+
+// The parent's matrix is read back from the buffer: parents come first.
+fn parent_matrix(plan: &[u16], buffer: &[f32], j: usize) -> Matrix4
+    requires { ⌜ (j < 65536) × (parentAt j < length (now plan)) × (isRoot (now plan) j ≡ false → parent (now plan) j < j) × (outputAt j ≤ length (now buffer)) ⌝ }
+    ensures { λ r. ⌜ r ≡ parentIn (now (plan .entry)) (now (buffer .entry)) j ⌝ }
+{
+    let p = parent(plan, j);
+    if p == 255 {
+        return identity_matrix();
+    }
+    matrix_at(buffer, output_at(p))
+}
+
+// The matrices of the `count` joints from `first` on, whose poses are the block's lanes.
+pub fn calculate_global_poses(
+    plan: &[u16],
+    block: &[f32; 256],
+    first: usize,
+    count: usize,
+    output: &mut [f32],
+)
+    requires { ⌜ Passes (now plan) × (count ≤ blockSize) × (first + count ≤ jointCount (now plan)) × (outputAt (first + count) ≤ length (now output)) ⌝ }
+    ensures { λ _. ⌜ GlobalPoses (now (plan .entry)) (now (block .entry)) first count (now (output .entry)) (now (output .exit)) ⌝ }
+{
+    let mut i = 0;
+    while i < count {
+        let j = first + i;
+        let base = parent_matrix(plan, output, j);
+        let own = to_matrix(lane(block, i));
+        set_matrix(output, output_at(j), row_mat4_mul(base, own));
+        i += 1;
+    }
+}
+
+// The upper 3×3 transposed.
+fn page_matrix(m: Matrix4) -> Matrix4
+    ensures { λ r. ⌜ r ≡ pageMatrix m ⌝ }
+{
+    let r3 = m.r3;
+    Matrix4 {
+        r0: Row {
+            c0: m.r0.c0,
+            c1: m.r1.c0,
+            c2: m.r2.c0,
+            c3: m.r0.c3,
+        },
+        r1: Row {
+            c0: m.r0.c1,
+            c1: m.r1.c1,
+            c2: m.r2.c1,
+            c3: m.r1.c3,
+        },
+        r2: Row {
+            c0: m.r0.c2,
+            c1: m.r1.c2,
+            c2: m.r2.c2,
+            c3: m.r2.c3,
+        },
+        r3: r3,
+    }
+}
+
+// The first `joints` matrices of the output.
+pub fn make_page_matrices(joints: usize, output: &mut [f32])
+    requires { ⌜ (joints ≤ 64) × (outputAt joints ≤ length (now output)) ⌝ }
+    ensures { λ _. ⌜ Paged joints (now (output .entry)) (now (output .exit)) ⌝ }
+{
+    let mut j = 0;
+    while j < joints {
+        let at = output_at(j);
+        set_matrix(output, at, page_matrix(matrix_at(output, at)));
+        j += 1;
+    }
+}
