@@ -1,0 +1,2 @@
+-- What step 1 makes of a player
+pub mod Step

@@ -1,0 +1,126 @@
+// Step 1 of a frame: a transition ends, or the first whose condition holds begins.
+use float::widen;
+use layout::StateLayout;
+use layout::condition_at;
+use layout::duration;
+use layout::value;
+use model::Transition;
+ghost use mathlib.Core.Path.{_≡_};
+ghost use Prim.Native.Nat.{_<_};
+ghost use Rattle.model.specs.Plan.{transitionCount};
+ghost use Rattle.model.specs.Controller.{holds, conditionHolds, begun, firstPassing, isEnded};
+ghost use Rattle.layout.specs.Layout.{Passes, InPlan};
+ghost use Rattle.transitions.specs.Step.{StepMade};
+
+// The player's state and transition after the step.
+pub struct Stepped {
+    pub state: usize,
+    pub transition: Transition,
+}
+
+// < <= > >= == != by their numbers, parameter on the left.
+fn holds(operator: usize, p: f32, v: f32) -> bool
+    ensures { λ r. ⌜ r ≡ holds operator p v ⌝ }
+{
+    match operator {
+        0 => p < v,
+        1 => p <= v,
+        2 => p > v,
+        3 => p >= v,
+        4 => p == v,
+        _ => p != v,
+    }
+}
+
+fn condition_holds(
+    plan: &[u16],
+    numbers: &[f32],
+    here: StateLayout,
+    parameters: &[f32; 32],
+    t: usize,
+) -> bool
+    requires { ⌜ Passes (now plan) × InPlan (now plan) here × (t < here .transitions) ⌝ }
+    ensures { λ r. ⌜ r ≡ conditionHolds (now (plan .entry)) (now (numbers .entry)) (now (parameters .entry)) (here .state) t ⌝ }
+{
+    let condition = condition_at(plan, here, t);
+    let v = value(plan, numbers, here, t);
+    holds(condition.operator, parameters[condition.parameter], v)
+}
+
+// Transition t of the state, started at an instant.
+fn begun(plan: &[u16], numbers: &[f32], here: StateLayout, instant: f64, t: usize) -> Transition
+    requires { ⌜ Passes (now plan) × InPlan (now plan) here × (t < here .transitions) ⌝ }
+    ensures { λ r. ⌜ r ≡ begun (now (plan .entry)) (now (numbers .entry)) instant (here .state) t ⌝ }
+{
+    let condition = condition_at(plan, here, t);
+    Transition::Running {
+        start: instant,
+        target: condition.target,
+        duration: duration(plan, numbers, here, t),
+    }
+}
+
+// In the plan's order, the first transition whose condition holds, or none.
+fn first_passing(
+    plan: &[u16],
+    numbers: &[f32],
+    here: StateLayout,
+    parameters: &[f32; 32],
+    instant: f64,
+) -> Transition
+    requires { ⌜ Passes (now plan) × InPlan (now plan) here ⌝ }
+    ensures { λ r. ⌜ r ≡ firstPassing (now (plan .entry)) (now (numbers .entry)) (now (parameters .entry)) instant (here .state) 0 (transitionCount (now (plan .entry)) (here .state)) ⌝ }
+{
+    let mut t = 0;
+    let passing = loop {
+        if t >= here.transitions {
+            break Transition::Idle;
+        }
+        if condition_holds(plan, numbers, here, parameters, t) {
+            break begun(plan, numbers, here, instant, t);
+        }
+        t += 1;
+    };
+    passing
+}
+
+fn is_ended(instant: f64, start: f64, duration: f32) -> bool
+    ensures { λ r. ⌜ r ≡ isEnded instant start duration ⌝ }
+{
+    instant >= start + widen(duration)
+}
+
+// An idle player looks for a start, one in a transition for its end: one of these in a frame.
+pub fn step(
+    plan: &[u16],
+    numbers: &[f32],
+    here: StateLayout,
+    transition: Transition,
+    parameters: &[f32; 32],
+    instant: f64,
+) -> Stepped
+    requires { ⌜ Passes (now plan) × InPlan (now plan) here ⌝ }
+    ensures { λ r. ⌜ StepMade (now (plan .entry)) (now (numbers .entry)) (here .state) transition (now (parameters .entry)) instant r ⌝ }
+{
+    let Transition::Running {
+        start,
+        target,
+        duration,
+    } = transition
+    else {
+        return Stepped {
+            state: here.state,
+            transition: first_passing(plan, numbers, here, parameters, instant),
+        };
+    };
+    if is_ended(instant, start, duration) {
+        return Stepped {
+            state: target,
+            transition: Transition::Idle,
+        };
+    }
+    Stepped {
+        state: here.state,
+        transition: transition,
+    }
+}
