@@ -8,3 +8,4 @@ pub mod State
 pub mod Passed
 pub mod Numbers
 pub mod ClipNodes
+pub mod Trees

@@ -1,7 +1,7 @@
 -- `layout::samples_before` meets its contract. Invariant: the sum is of the first k counts, each below 65536. Assumes nothing.
 use borrow.Author.Needs.{needs}
 use Prim.Native.Nat.{_*_, _-_, _≤_}
-use mathlib.Core.Path.{_≡_, refl, _∙_}
+use mathlib.Core.Path.{_≡_, refl}
 use native.Mathlib.Numerals.{add-one}
 use native.Mathlib.Omega.{arith}
 use Rattle.model.specs.Plan.{total, samplesBefore, sampleCount, sampleCountAt}
