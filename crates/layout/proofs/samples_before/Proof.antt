@@ -1,0 +1,30 @@
+-- `layout::samples_before` meets its contract. Invariant: the sum is of the first k counts, each below 65536. Assumes nothing.
+use borrow.Author.Needs.{needs}
+use Prim.Native.Nat.{_*_, _-_, _≤_}
+use mathlib.Core.Path.{_≡_, refl}
+use native.Mathlib.Numerals.{add-one}
+use native.Mathlib.Omega.{arith}
+use Rattle.model.specs.Plan.{total, samplesBefore, sampleCount, sampleCountAt}
+use Rattle.layout.proofs.samples_before.Statement.{statement}
+use Rattle.layout.proofs.samples_before.Tie as tie
+
+abbrev Inv-loop : tie.InvT-loop
+Inv-loop plan joints c sum₀ k₀ sum k = (sum ≡ samplesBefore plan k) × (sum ≤ k * 65536) × (k ≤ c)
+
+abbrev μ-loop : tie.MeasureT-loop
+μ-loop plan joints c sum₀ k₀ sum k = c - k
+
+loop-holds : tie.Need-loop-holds Inv-loop μ-loop
+unfolding samplesBefore total
+loop-holds c = (refl, omega arith, omega arith)
+
+loop-again : tie.Need-loop-again Inv-loop μ-loop
+unfolding samplesBefore total sampleCount sampleCountAt
+loop-again c = (rw (add-one, c .before .before .loop .inv .0, c .word .ensures .0, c .before .before .before .before .pre .0), omega arith, omega arith)
+
+returns : tie.Need-returns Inv-loop μ-loop
+returns c = let e : c .before .loop .k ≡ c .before .before .before .args .c = omega arith in (rw e at (c .before .loop .inv .0), omega arith)
+
+pub samples-before-spec : {M : Type 1} → statement M
+samples-before-spec =
+    tie.close (tie.spec Inv-loop μ-loop loop-holds (search needs) (search needs) (search needs) (search needs) (search needs) (search needs) loop-again returns)
