@@ -1,0 +1,2 @@
+-- Laws for the calls' proofs
+pub mod Laws
