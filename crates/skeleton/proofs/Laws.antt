@@ -59,7 +59,7 @@ stored-rows m k l room e₁ e₂ e₃ e₄ =
     let c = rowFloats (m .r2) in
     rw (e₄, e₃, e₂, e₁, stored-twice l a b k (omega arith), stored-twice l (a ++ b) c k (omega arith), stored-twice l (a ++ b ++ c) (rowFloats (m .r3)) k (omega arith))
 
--- ---- matrices in a row
+-- ---- matrices one after the other
 
 flat-length : (ms : List Matrix4) (n : ℕ) → length ms ≡ n → length (flat ms) ≡ outputAt n
 unfolding flat floats
@@ -93,6 +93,7 @@ read-back (m ∷ ms) (suc p) rest h =
 
 -- ---- joints
 
+-- the code's test of the word that it read
 pub root : (plan : List ℕ) (j p : ℕ) → p ≡ parent plan j → p ≡ 255 → isRoot plan j ≡ true
 unfolding isRoot
 root plan j p e t = eq-eqb (parent plan j) 255 (sym e ∙ t)
@@ -105,7 +106,7 @@ cond-else : {A : Type 0} (b : Bool) (x y z : A) → (b ≡ false → y ≡ z) �
 cond-else true x y z h = refl
 cond-else false x y z h = h refl
 
--- the parent's matrix is among those before
+-- the parent's matrix is read back, since the parent is among the first j
 parent-back : (plan : List ℕ) (j : ℕ) (ms : List Matrix4) (rest : List Float) → length ms ≡ j → (isRoot plan j ≡ false → parent plan j < j)
     → parentIn plan (flat ms ++ rest) j ≡ parentMatrix plan ms j
 unfolding parentIn parentMatrix
@@ -123,6 +124,7 @@ joint-more plan poseOf j old earlier =
     let s : 16 * suc j ≡ 16 * j + 16 = omega arith in
     rw (parent-back plan j ms back n earlier, stored-next ms (jointMatrix plan poseOf ms j) back j n, drop-drop 16 (outputAt j) old, add-one j, s)
 
+-- `GlobalPoses` of the first i lanes is the loop's invariant
 module _ (plan : List ℕ) (block : List Float) (first : ℕ) where
   pub no-lanes : (before : List Float) → GlobalPoses plan block first 0 before before
   no-lanes before = record { written = λ poseOf _ old e. rw (add-zero first) e }
@@ -138,7 +140,7 @@ module _ (plan : List ℕ) (block : List Float) (first : ℕ) where
         ea ∙ rw (ep, em, eb, ew, el, o, lanes i (omega arith), s) (joint-more plan poseOf (first + i) old (parent-earlier plan (ok .numbers) (ok .passed) (first + i) there));
   }
 
--- ---- page matrices
+-- ---- page matrices. `Paged` of the first j is the loop's invariant: for these, what follows is the rest
 
 pub none-paged : (before : List Float) → Paged 0 before before
 unfolding flat

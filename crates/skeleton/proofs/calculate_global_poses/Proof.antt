@@ -53,9 +53,6 @@ loop-again c =
     let s = i .before .before .before .before in
     (omega arith, w .set-matrix .kept .0 ∙ l .inv .1, one-lane-more _ _ _ (s .pre .0) (omega (arith, i .loop-test .taken, s .pre .2)) (l .inv .2) (p .parent-matrix .ensures) (t .before .lane .ensures) (t .to-matrix .ensures) (a .output-at .ensures) (m .row-mat4-mul .ensures) (w .set-matrix .ensures))
 
-same-length : tie.Need-same-length Inv-loop μ-loop
-same-length c = c .before .loop .inv .1
-
 returns : tie.Need-returns Inv-loop μ-loop
 returns c =
     let l = c .before .loop in
@@ -79,5 +76,5 @@ calculate-global-poses-spec =
     (omega arith)
     (omega arith)
     loop-again
-    same-length
+    (search needs)
     returns)

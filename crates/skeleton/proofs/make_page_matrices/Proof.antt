@@ -27,9 +27,6 @@ loop-again c =
     let l = a .before .before .loop in
     (omega arith, w .set-matrix .kept .0 ∙ l .inv .1, one-page-more (l .inv .2) (a .output-at .ensures) (m .matrix-at .ensures) (t .page-matrix .ensures) (w .set-matrix .ensures))
 
-same-length : tie.Need-same-length Inv-loop μ-loop
-same-length c = c .before .loop .inv .1
-
 returns : tie.Need-returns Inv-loop μ-loop
 returns c =
     let l = c .before .loop in
@@ -50,5 +47,5 @@ make-page-matrices-spec =
     (omega arith)
     (omega arith)
     loop-again
-    same-length
+    (search needs)
     returns)
