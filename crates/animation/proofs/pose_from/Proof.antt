@@ -1,4 +1,4 @@
--- `animation::pose_from` meets its contract: it is the definition. Assumes nothing.
+-- `animation::pose_from` meets its contract: it is the definition, whose first place is at + 0. Assumes nothing.
 use native.Mathlib.Omega.{arith}
 use native.Mathlib.Nat.{add-zero}
 use Rattle.animation.specs.Sampling.{poseFrom}

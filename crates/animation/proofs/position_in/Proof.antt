@@ -7,7 +7,7 @@ use Rattle.animation.proofs.position_in.Tie as tie
 
 returns : tie.Need-returns
 unfolding positionIn firstIndex secondIndex factor
-returns c = cc
+returns c = rw (c .index-to-float .ensures, c .before .ceiling-index .ensures, c .before .before .floor-index .ensures)
 
 pub position-in-spec : {M : Type 1} → statement M
 position-in-spec = tie.close (tie.spec (search needs) (search needs) (search needs) (search needs) (search needs) returns)
