@@ -10,7 +10,6 @@ use borrow.Author.Tests.{ltb-true}
 use denote.Enum.Declared.{tagOf}
 use Rattle.model.proofs.Transition.{the-type}
 use Rattle.model.specs.declared.Pose.{Pose}
-use Rattle.model.specs.declared.Player.{Player}
 use Rattle.model.specs.declared.Transition.{Transition}
 use Rattle.model.specs.declared.Transition.the-variants.{Idle, Running}
 use Rattle.model.specs.Pose.{lerp}
