@@ -7,5 +7,6 @@ pub mod Tests
 pub mod State
 pub mod Trees
 pub mod Passed
+pub mod Steps
 pub mod Numbers
 pub mod ClipNodes

@@ -22,8 +22,8 @@ use Rattle.layout.specs.declared.Layout.{Layout}
 use Rattle.layout.specs.declared.StateLayout.{StateLayout}
 use Rattle.layout.specs.Layout.{Passes, InPlan, layoutOf, stateLayout}
 use Rattle.lanes.specs.Lanes.{blockSize, laneAt}
-use Rattle.output_pose.specs.Blocks.{Filled, Playable, InBlock}
-use Rattle.output_pose.specs.Buffer.{jointsWritten}
+use Rattle.blend_tree.specs.Blocks.{Filled, Playable, InBlock}
+use Rattle.skeleton.specs.Buffer.{jointsWritten}
 use Rattle.output_pose.specs.Shown.{skeletonOf, Shown}
 
 -- ---- blocks

@@ -6,7 +6,7 @@ use mathlib.Core.Path.{_≡_, refl, _∙_}
 use lib.ListN.{length}
 use Rattle.model.specs.Pose.{lerp}
 use Rattle.model.specs.Tree.{statePose}
-use Rattle.output_pose.specs.Buffer.{jointsWritten}
+use Rattle.skeleton.specs.Buffer.{jointsWritten}
 use Rattle.output_pose.proofs.Laws.{joints-found, in-block, room, blended, none-written, all-written}
 use Rattle.output_pose.proofs.show_blend.Statement.{statement}
 use Rattle.output_pose.proofs.show_blend.Tie as tie

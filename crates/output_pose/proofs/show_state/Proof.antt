@@ -5,7 +5,7 @@ use native.Mathlib.Omega.{arith}
 use mathlib.Core.Path.{_≡_, refl, _∙_}
 use lib.ListN.{length}
 use Rattle.model.specs.Tree.{statePose}
-use Rattle.output_pose.specs.Buffer.{jointsWritten}
+use Rattle.skeleton.specs.Buffer.{jointsWritten}
 use Rattle.output_pose.proofs.Laws.{joints-found, in-block, room, none-written, all-written}
 use Rattle.output_pose.proofs.show_state.Statement.{statement}
 use Rattle.output_pose.proofs.show_state.Tie as tie
