@@ -1,2 +1,3 @@
 -- Laws for the calls' proofs
 pub mod Laws
+pub mod Frames

@@ -1,0 +1,233 @@
+-- What a frame's parts come to, over plain values: the player and output of one that is played, and the promise of each answer. Assumes nothing.
+use Prim.Native.Nat.{ℕ, _+_, _≤_, _<_}
+use native.Mathlib.Omega.{arith}
+use native.Mathlib.Numerals.{add-one}
+use mathlib.Core.Path.{_≡_, refl, sym, ap, subst, _∙_}
+use mathlib.Core.Bool.{Bool, true, false}
+use mathlib.Core.List.{List, map}
+use lib.ListN.{length, replicate}
+use lib.Ieee.{Float}
+use denote.Enum.Declared.{tagOf}
+use borrow.Author.Tests.{le-ltb, lt-ltb, le-leb, lt-leb, leb-true}
+use Rattle.model.specs.declared.Answer.{Answer}
+use Rattle.model.specs.declared.Answer.the-variants as answer
+use Rattle.model.specs.declared.Outcome.{Outcome}
+use Rattle.model.specs.declared.Player.{Player}
+use Rattle.model.specs.declared.Transition.{Transition}
+use Rattle.model.proofs.Answer.{the-type}
+use Rattle.model.specs.Answers.{Verdict, accepted, refused, values, _then_, require, unlessRefused}
+use Rattle.model.specs.Plan.{jointCount, stateCount, outputAt}
+use Rattle.model.specs.Numbers.{0f}
+use Rattle.model.specs.Check.{check}
+use Rattle.model.specs.Tree.{synchronize}
+use Rattle.model.specs.Controller.{blank, fresh, synchronizeStates, withState, withTransition, withInstances, isTargetBelow, frameVerdict, nowAt, stepFrom, elapsed}
+use Rattle.model.specs.Skeleton.{jointMatrices, pageMatrix, flat, written}
+use Rattle.model.specs.Run.{startVerdict, startPlayer, FrameKind, ordinary, page, shown, framePlayer, frameMatrices}
+use Rattle.model.specs.Promises.{Started, Framed}
+use Rattle.model.specs.Laws.Answers.{then-left, then-right, require-true}
+use Rattle.model.specs.Laws.Passed.{few-joints, state-passed}
+use Rattle.model.specs.Laws.Steps.{step-target-below, step-state-below}
+use Rattle.model.specs.Laws.Table.{table-length}
+use Rattle.layout.specs.declared.Layout.{Layout}
+use Rattle.layout.specs.declared.StateLayout.{StateLayout}
+use Rattle.layout.specs.Layout.{layoutOf, stateLayout, Passes, InPlan}
+use Rattle.plan.specs.declared.Checked.{Checked}
+use Rattle.plan.specs.declared.Checked.the-variants as checked
+use Rattle.plan.proofs.Checked.{the-type as checked-type}
+use Rattle.transitions.specs.declared.Stepped.{Stepped}
+use Rattle.plan.specs.Checked.{verdict, layoutIn, PlanChecked}
+use Rattle.blend_tree.specs.Blocks.{Playable}
+use Rattle.skeleton.specs.Buffer.{Paged}
+use Rattle.transitions.specs.Step.{StepMade}
+use Rattle.output_pose.specs.Shown.{Shown, skeletonOf}
+
+-- ---- the check's enum
+
+pub playable : (plan : List ℕ) (numbers : List Float) (k : Checked) (l : Layout) → PlanChecked plan (length numbers) k → k ≡ checked.Passed l → Playable plan numbers l
+unfolding verdict layoutIn
+playable plan numbers k l done e = record { passed = sym (done .answer) ∙ ap verdict e; found = sym (ap (layoutIn (layoutOf plan)) e) ∙ done .layout }
+
+pub passes : {plan : List ℕ} {numbers : List Float} {l : Layout} → Playable plan numbers l → Passes plan
+passes {plan} {numbers} {l} h = record { numbers = length numbers; passed = h .passed }
+
+-- the layout's counts are the plan's
+pub states-are : {plan : List ℕ} {numbers : List Float} {l : Layout} → Playable plan numbers l → l .states ≡ stateCount plan
+unfolding layoutOf
+states-are h = ap (λ (l : Layout). l .states) (h .found)
+
+pub joints-are : {plan : List ℕ} {numbers : List Float} {l : Layout} → Playable plan numbers l → l .joints ≡ jointCount plan
+unfolding layoutOf
+joints-are h = ap (λ (l : Layout). l .joints) (h .found)
+
+pub in-plan : (plan : List ℕ) (s : ℕ) (here : StateLayout) → here ≡ stateLayout plan s → s < stateCount plan → InPlan plan here
+unfolding stateLayout
+in-plan plan s here e h =
+    let n : here .state ≡ s = ap (λ (l : StateLayout). l .state) e in
+    record { below = rw n h; place = e ∙ ap (stateLayout plan) (sym n) }
+
+-- ---- steps 1 to 3
+
+module _ (plan : List ℕ) (numbers : List Float) (p : Player) (ext : Float) (r : Stepped) (before : StateLayout)
+    (at : before ≡ stateLayout plan (p .state)) (made : StepMade plan numbers (before .state) (p .transition) (p .parameters) (nowAt p ext) r) where
+  -- the player after step 1
+  abbrev after-step : Player
+  after-step = withTransition (withState p (r .state)) (r .transition)
+
+  step-is : stepFrom plan numbers (nowAt p ext) p (p .transition) ≡ after-step
+  unfolding stateLayout
+  step-is = made .step p (sym (ap (λ (l : StateLayout). l .state) at)) refl refl
+
+  pub still-below : check plan (length numbers) ≡ accepted → p .state < stateCount plan → isTargetBelow (stateCount plan) (p .transition) ≡ true → r .state < stateCount plan
+  still-below ok h t = subst (λ (q : Player). q .state < stateCount plan) step-is (step-state-below plan numbers p (nowAt p ext) (state-passed plan (length numbers) ok (p .state) h) (p .transition) h t)
+
+  pub still-target : check plan (length numbers) ≡ accepted → p .state < stateCount plan → isTargetBelow (stateCount plan) (p .transition) ≡ true → isTargetBelow (stateCount plan) (r .transition) ≡ true
+  still-target ok h t =
+      subst (λ (q : Player). isTargetBelow (stateCount plan) (q .transition) ≡ true) step-is (step-target-below plan numbers p (nowAt p ext) (state-passed plan (length numbers) ok (p .state) h) (p .transition) refl t)
+
+  module _ (here : StateLayout) (there : here ≡ stateLayout plan (r .state)) (time : Float) (told : time ≡ elapsed p ext) (after old new : List Float)
+      (done : Shown plan numbers time (nowAt p ext) (here .state) (r .transition) (p .parameters) (p .instances) after old new) where
+    same-state : after-step .state ≡ here .state
+    unfolding stateLayout
+    same-state = sym (ap (λ (l : StateLayout). l .state) there)
+
+    pub played : withInstances after-step after ≡ framePlayer plan numbers p ext
+    unfolding framePlayer
+    played = rw (step-is, done .instances after-step same-state refl refl, told)
+
+    pub drawn : new ≡ written plan (frameMatrices plan numbers p ext ordinary) old
+    unfolding frameMatrices shown
+    drawn = rw step-is (rw told at (done .output after-step same-state refl refl))
+
+-- ---- the answers of a frame
+
+module _ (plan : List ℕ) (numbers : List Float) (p : Player) (n : ℕ) where
+  -- an early refusal is the verdict
+  refused-first : (k p r : ℕ) (v w x y : Verdict) → v ≡ refused k p r → v then w then x then y ≡ refused k p r
+  unfolding _then_
+  refused-first k p r v w x y e = rw e
+
+  pub check-refuses : (k m r : ℕ) → check plan (length numbers) ≡ refused k m r → frameVerdict plan numbers p n ≡ refused k m r
+  unfolding frameVerdict
+  check-refuses k m r e = refused-first k m r _ _ _ _ e
+
+  pub frame-passed : frameVerdict plan numbers p n ≡ accepted → check plan (length numbers) ≡ accepted
+  unfolding frameVerdict
+  frame-passed e = then-left _ _ (then-left _ _ (then-left _ _ e))
+
+  pub frame-fits : frameVerdict plan numbers p n ≡ accepted → outputAt (jointCount plan) ≤ n
+  unfolding frameVerdict
+  frame-fits e = leb-true _ _ (require-true _ _ _ (then-right _ _ e))
+
+-- a plan that passed, by its layout: the tests that follow, each past the ones before it
+module _ (plan : List ℕ) (numbers : List Float) (l : Layout) (ok : Playable plan numbers l) (p : Player) (n : ℕ) where
+  pub state-refuses : l .states ≤ p .state → frameVerdict plan numbers p n ≡ refused 9 0 0
+  unfolding frameVerdict _then_ require
+  state-refuses h = let k : stateCount plan ≤ p .state = rw (← states-are ok) h in rw (ok .passed, le-ltb (p .state) (stateCount plan) k)
+
+  module _ (h : p .state < l .states) where
+    pub in-range : p .state < stateCount plan
+    in-range = rw (← states-are ok) h
+
+    module _ (below : Bool) (told : below ≡ isTargetBelow (l .states) (p .transition)) where
+      target-is : isTargetBelow (stateCount plan) (p .transition) ≡ below
+      target-is = rw (← states-are ok) (sym told)
+
+      pub target-refuses : below ≡ false → frameVerdict plan numbers p n ≡ refused 9 0 0
+      unfolding frameVerdict _then_ require
+      target-refuses e = rw (ok .passed, lt-ltb (p .state) (stateCount plan) in-range, target-is, e)
+
+      module _ (e : below ≡ true) (at : ℕ) (end : at ≡ outputAt (l .joints)) where
+        pub target-below : isTargetBelow (stateCount plan) (p .transition) ≡ true
+        target-below = target-is ∙ e
+
+        pub output-fits : at ≤ n → outputAt (jointCount plan) ≤ n
+        output-fits f = rw (← joints-are ok, ← end) f
+
+        pub output-refuses : n < at → frameVerdict plan numbers p n ≡ refused 10 0 0
+        unfolding frameVerdict _then_ require
+        output-refuses f =
+            let g : n < outputAt (jointCount plan) = rw (← joints-are ok, ← end) f in
+            rw (ok .passed, lt-ltb (p .state) (stateCount plan) in-range, target-below, lt-leb (outputAt (jointCount plan)) n g)
+
+        pub nothing-refuses : at ≤ n → frameVerdict plan numbers p n ≡ accepted
+        unfolding frameVerdict _then_ require
+        nothing-refuses f = rw (ok .passed, lt-ltb (p .state) (stateCount plan) in-range, target-below, le-leb (outputAt (jointCount plan)) n (output-fits f))
+
+-- the promise of a refused frame of either kind, and of an accepted one
+pub frame-refused : (kind : FrameKind) (plan : List ℕ) (numbers : List Float) (p : Player) (ext : Float) (old : List Float) (a : Answer) (q : Player) (k m r : ℕ)
+    → frameVerdict plan numbers p (length old) ≡ refused k m r → values a ≡ refused k m r → q ≡ p → Framed kind plan numbers p ext old old (record { answer = a; player = q })
+unfolding unlessRefused
+frame-refused kind plan numbers p ext old a q k m r v e same = record { answer = e ∙ sym v; player = rw v same; output = rw v }
+
+pub frame-accepted : (plan : List ℕ) (numbers : List Float) (p : Player) (ext : Float) (old new : List Float) (q : Player)
+    → frameVerdict plan numbers p (length old) ≡ accepted → q ≡ framePlayer plan numbers p ext → new ≡ written plan (frameMatrices plan numbers p ext ordinary) old
+    → Framed ordinary plan numbers p ext old new (record { answer = answer.Accepted; player = q })
+unfolding values unlessRefused
+frame-accepted plan numbers p ext old new q v e f = record { answer = sym v; player = rw v e; output = rw v f }
+
+-- a check that refuses hands its refusal on
+pub frame-handed : (plan : List ℕ) (numbers : List Float) (p : Player) (ext : Float) (k : Checked) → PlanChecked plan (length numbers) k → tagOf checked-type k ≡ 1
+    → (old : List Float) {a : Answer} → values a ≡ verdict k → Framed ordinary plan numbers p ext old old (record { answer = a; player = p })
+unfolding verdict
+frame-handed plan numbers p ext (checked.Passed l) done t old e = absurd (omega (arith, t))
+frame-handed plan numbers p ext (checked.Refused n m) done t old e =
+    frame-refused ordinary plan numbers p ext old _ p n m 0 (check-refuses plan numbers p (length old) n m 0 (sym (done .answer))) e refl
+
+-- ---- a page frame, from the frame that it is
+
+module _ (plan : List ℕ) (numbers : List Float) (p : Player) (ext : Float) (old mid : List Float) (r : Outcome) (done : Framed ordinary plan numbers p ext old mid r) where
+  unrefused : (v : Verdict) (a b o : List Float) → (v ≡ accepted → ⊥) → unlessRefused v a o ≡ unlessRefused v b o
+  unfolding unlessRefused
+  unrefused accepted a b o h = absurd (h refl)
+  unrefused (refused k m n) a b o h = refl
+
+  not-accepted : (a : Answer) → tagOf the-type a ≡ 1 → values a ≡ accepted → ⊥
+  unfolding values
+  not-accepted answer.Accepted t e = omega (arith, t)
+  not-accepted (answer.Refused k m) t e = let z : _≡_ {A = ℕ} 0 1 = cc in omega arith
+
+  pub page-refused : tagOf the-type (r .answer) ≡ 1 → Framed page plan numbers p ext old mid r
+  page-refused t =
+      record { answer = done .answer; player = done .player; output = done .output ∙ unrefused _ _ _ _ (λ e. not-accepted (r .answer) t (done .answer ∙ e)) }
+
+  module _ (e : r .answer ≡ answer.Accepted) where
+    accepted-frame : frameVerdict plan numbers p (length old) ≡ accepted
+    unfolding values
+    accepted-frame = sym (done .answer) ∙ ap values e
+
+    pub page-joints : jointCount plan ≤ 64
+    page-joints = few-joints plan (length numbers) (frame-passed plan numbers p (length old) accepted-frame)
+
+    pub page-fits : length mid ≡ length old → outputAt (jointCount plan) ≤ length mid
+    page-fits h = rw h (frame-fits plan numbers p (length old) accepted-frame)
+
+    pub page-accepted : (new : List Float) → Paged (jointCount plan) mid new → Framed page plan numbers p ext old new r
+    unfolding unlessRefused frameMatrices shown written jointMatrices
+    page-accepted new paged =
+        record {
+          answer = done .answer;
+          player = done .player;
+          output = rw accepted-frame (paged .turned _ _ (table-length _ (jointCount plan)) (rw accepted-frame at (done .output)));
+        }
+
+-- ---- start
+
+pub one-more-state : (plan : List ℕ) (numbers parameters : List Float) (s : ℕ) (here : StateLayout) (first before after : List Float) → here ≡ stateLayout plan s → parameters ≡ replicate 32 0f
+    → before ≡ synchronizeStates plan numbers s first → after ≡ synchronize plan numbers parameters 0f (here .state) before → after ≡ synchronizeStates plan numbers (s + 1) first
+unfolding stateLayout synchronizeStates
+one-more-state plan numbers parameters s here first before after e z b a = rw (a, e, z, b, add-one s)
+
+pub fresh-made : (plan : List ℕ) (numbers : List Float) (l : Layout) → Playable plan numbers l → (b : Player) → b ≡ blank → (after : List Float)
+    → after ≡ synchronizeStates plan numbers (stateCount plan) (b .instances) → withInstances (withState b (l .initial)) after ≡ fresh plan numbers
+unfolding fresh layoutOf
+fresh-made plan numbers l ok b e after a = rw (a, e, ok .found)
+
+pub start-handed : (plan : List ℕ) (numbers : List Float) (k : Checked) → PlanChecked plan (length numbers) k → tagOf checked-type k ≡ 1 → {a : Answer} → values a ≡ verdict k → {b : Player} → b ≡ blank
+    → Started plan numbers (record { answer = a; player = b })
+unfolding verdict startVerdict startPlayer unlessRefused
+start-handed plan numbers (checked.Passed l) done t e f = absurd (omega (arith, t))
+start-handed plan numbers (checked.Refused n m) done t e f = record { answer = e ∙ done .answer; player = rw (← done .answer) f }
+
+pub start-accepted : (plan : List ℕ) (numbers : List Float) → check plan (length numbers) ≡ accepted → (q : Player) → q ≡ fresh plan numbers → Started plan numbers (record { answer = answer.Accepted; player = q })
+unfolding values startVerdict startPlayer unlessRefused
+start-accepted plan numbers ok q e = record { answer = sym ok; player = rw ok e }

@@ -1,0 +1,54 @@
+-- `controller::synchronize_states` meets its contract. Invariant: the first s states are synchronised. Assumes nothing.
+use borrow.Author.Needs.{needs}
+use Prim.Native.Nat.{_-_, _≤_}
+use native.Mathlib.Omega.{arith}
+use native.Mathlib.Numerals.{add-one}
+use mathlib.Core.Path.{_≡_, refl, _∙_}
+use Rattle.model.specs.Controller.{synchronizeStates}
+use Rattle.controller.proofs.Frames.{passes, in-plan, states-are, one-more-state}
+use Rattle.controller.proofs.synchronize_states.Statement.{statement}
+use Rattle.controller.proofs.synchronize_states.Tie as tie
+
+abbrev Inv-loop : tie.InvT-loop
+Inv-loop plan numbers layout parameters instances₀ s₀ instances s = (s ≤ layout .states) × (instances ≡ synchronizeStates plan numbers s instances₀)
+
+abbrev μ-loop : tie.MeasureT-loop
+μ-loop plan numbers layout parameters instances₀ s₀ instances s = layout .states - s
+
+loop-holds : tie.Need-loop-holds Inv-loop μ-loop
+unfolding synchronizeStates
+loop-holds c = (omega arith, refl)
+
+state-layout-requires : tie.Need-state-layout-requires Inv-loop μ-loop
+state-layout-requires c κs = (passes (c .before .before .before .before .before .pre .0), c .before .before .before .before .before .pre .0 .found, rw (← states-are (c .before .before .before .before .before .pre .0)) (c .if1 .taken))
+
+clip-slots-requires : tie.Need-clip-slots-requires Inv-loop μ-loop
+clip-slots-requires c κs =
+    let i = c .before in
+    let ok = i .before .before .before .before .before .pre .0 in
+    (passes ok, in-plan _ _ _ (c .state-layout .ensures) (rw (← states-are ok) (i .if1 .taken)))
+
+synchronize-requires : tie.Need-synchronize-requires Inv-loop μ-loop
+synchronize-requires c κs =
+    let k = c .before .before in
+    let l = k .before in
+    let i = l .before in
+    let ok = i .before .before .before .before .before .pre .0 in
+    (ok, in-plan _ _ _ (l .state-layout .ensures) (rw (← states-are ok) (i .if1 .taken)), k .clip-slots .ensures)
+
+loop-again : tie.Need-loop-again Inv-loop μ-loop
+unfolding synchronizeStates
+loop-again c =
+    let l = c .before .before .before .before in
+    let i = l .before in
+    let m = i .before .before in
+    (omega (arith, i .if1 .taken), one-more-state _ _ _ _ _ _ _ _ (l .state-layout .ensures) (m .before .before .before .pre .1) (m .loop .inv .1) (c .synchronize .ensures))
+
+returns : tie.Need-returns Inv-loop μ-loop
+returns c =
+    let m = c .before .before in
+    let e : m .loop .s ≡ m .before .before .before .args .layout .states = omega (arith, c .if1 .left, m .loop .inv .0) in
+    rw (← states-are (m .before .before .before .pre .0), ← e) (m .loop .inv .1)
+
+pub synchronize-states-spec : {M : Type 1} → statement M
+synchronize-states-spec = tie.close (tie.spec Inv-loop μ-loop loop-holds state-layout-requires clip-slots-requires synchronize-requires (search needs) (search needs) loop-again returns)
