@@ -168,13 +168,10 @@ module _ {plan : List ℕ} {numbers : List Float} {layout : Layout} {here : Stat
   pub slot-small : {slots : List ℕ} → Slots plan (here .state) slots → words .kind ≡ 0 → getD slots i 0 < maxClipNodes
   slot-small h e = rw (slot-found h) (few-clip-nodes plan (here .state) ok i below-count (is-clip e))
 
-  pub a-before : (words .kind ≡ 0 → ⊥) → words .a < i
+  pub inputs-before : (words .kind ≡ 0 → ⊥) → (words .a < i) × (words .b < i)
   unfolding nodeOf
-  a-before e = rw (r .found) (a-earlier plan (here .state) ok i below-count (no-clip e))
-
-  pub b-before : (words .kind ≡ 0 → ⊥) → words .b < i
-  unfolding nodeOf
-  b-before e = rw (r .found) (b-earlier plan (here .state) ok i below-count (no-clip e))
+  inputs-before e =
+      rw (r .found) (a-earlier plan (here .state) ok i below-count (no-clip e), b-earlier plan (here .state) ok i below-count (no-clip e))
 
   pub parameter-small : (words .kind ≡ 0 → ⊥) → words .parameter < 32
   unfolding nodeOf
@@ -202,7 +199,7 @@ module _ {plan : List ℕ} {numbers : List Float} {layout : Layout} {here : Stat
         → let p = parameter parameters (words .parameter) in cond (eqb (words .kind) 1) (lerp x y p) (additive x y p) ≡ poseOf i
     unfolding isLerp nodeOf nodePose
     of-inputs e ex ey =
-        rw (by-table i, no-clip e, ex, ey, ← input (words .a) (a-before e), ← input (words .b) (b-before e), r .found)
+        rw (by-table i, no-clip e, ex, ey, ← input (words .a) (inputs-before e .0), ← input (words .b) (inputs-before e .1), r .found)
 
 -- ---- the root
 

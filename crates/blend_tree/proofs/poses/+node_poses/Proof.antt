@@ -11,7 +11,7 @@ use Rattle.model.specs.Clips.{localTime, instanceAt}
 use Rattle.animation.proofs.instance_at.Reads as instance-at-reads
 use Rattle.animation.proofs.local_time.Reads as local-time-reads
 use Rattle.layout.proofs.node_at.Reads as node-at-reads
-use Rattle.blend_tree.proofs.PoseLaws.{NodeRead, node-small, clip-inside, slot-found, slot-small, a-before, b-before, parameter-small, of-clip, of-inputs}
+use Rattle.blend_tree.proofs.PoseLaws.{NodeRead, node-small, clip-inside, slot-found, slot-small, inputs-before, parameter-small, of-clip, of-inputs}
 use Rattle.blend_tree.proofs.poses.additive_all.Reads as additive-all-reads
 use Rattle.blend_tree.proofs.poses.clip_poses.Reads as clip-poses-reads
 use Rattle.blend_tree.proofs.poses.lerp_all.Reads as lerp-all-reads
@@ -84,7 +84,7 @@ module _ (t : ℕ) where
   node-poses-requires c κs =
       let k = c .before .before .before in
       let r = start k .pre .1 in
-      let less = a-before (read k) (c .before .if1 .left) in
+      let less = inputs-before (read k) (c .before .if1 .left) in
       (omega (arith, less, start k .pre .0), (r .0, r .1, r .2, r .3, omega (arith, less, r .4)))
 
   node-poses-requires-2 : lts.Need-node-poses-requires-2 (claims t) (node-poses-at t) reads.Post
@@ -92,7 +92,7 @@ module _ (t : ℕ) where
       let e = c .before .before .before in
       let k = e .before .before in
       let r = start k .pre .1 in
-      let less = b-before (read k) (e .if1 .left) in
+      let less = inputs-before (read k) (e .if1 .left) in
       (omega (arith, less, start k .pre .0), (r .0, r .1, r .2, r .3, omega (arith, less, r .4)))
 
   -- the parameter, after both inputs

@@ -38,14 +38,12 @@ samples-before-requires c κs =
 pose-at-requires : tie.Need-pose-at-requires
 pose-at-requires c κs =
     let s = start (c .before) in
-    let small = places-small (positioned (c .before)) in
-    (small .0, small .1, small .2, omega (arith, few-joints _ (length (s .args .numbers .now)) (s .pre .0 .passed)))
+    omega (arith, places-small (positioned (c .before)), few-joints _ (length (s .args .numbers .now)) (s .pre .0 .passed))
 
 pose-at-requires-2 : tie.Need-pose-at-requires-2
 pose-at-requires-2 c κs =
     let s = start (c .before .before .before) in
-    let small = places-small (positioned (c .before .before .before)) in
-    (small .0, small .1, small .3, omega (arith, few-joints _ (length (s .args .numbers .now)) (s .pre .0 .passed)))
+    omega (arith, places-small (positioned (c .before .before .before)), few-joints _ (length (s .args .numbers .now)) (s .pre .0 .passed))
 
 sample-all-requires : tie.Need-sample-all-requires
 sample-all-requires c κs =
