@@ -162,7 +162,8 @@ fn node_poses(
         words.b,
         &mut other,
     );
-    let factor = parameters[words.parameter];
+    let p = words.parameter;
+    let factor = parameters[p];
     if words.kind == 1 {
         lerp_all(block, &other, factor, count);
     } else {
