@@ -1,1 +1,3 @@
+-- Laws for the proofs of either module
 pub mod PoseLaws
+pub mod SynchronizeLaws

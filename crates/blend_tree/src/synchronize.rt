@@ -124,9 +124,10 @@ fn synchronize_node(
     let words = node_at(plan, here, i);
     let a = words.a;
     let b = words.b;
+    let parameter = words.parameter;
     let length_a = node_length(plan, numbers, layout, here, a);
     let length_b = node_length(plan, numbers, layout, here, b);
-    let target = target_length(parameters[words.parameter], length_a, length_b);
+    let target = target_length(parameters[parameter], length_a, length_b);
     synchronize_input(
         plan,
         numbers,

@@ -1,0 +1,23 @@
+-- `blend_tree::synchronize::node_length` meets its contract: a clip node names a clip that the plan has. Assumes nothing.
+use borrow.Author.Needs.{needs}
+use Rattle.model.specs.Clips.{duration}
+use Rattle.model.specs.Tree.{nodeLength}
+use Rattle.layout.specs.Layout.{nodeOf}
+use Rattle.blend_tree.proofs.SynchronizeLaws.{passes, clip-there}
+use Rattle.blend_tree.proofs.synchronize.node_length.Statement.{statement}
+use Rattle.blend_tree.proofs.synchronize.node_length.Tie as tie
+
+node-at-requires : tie.Need-node-at-requires
+node-at-requires c κs = let p = c .before .before .pre in (passes (p .0), p .1, p .2)
+
+sample-count-requires : tie.Need-sample-count-requires
+sample-count-requires c κs =
+    let p = c .before .before .before .pre in
+    (passes (p .0), p .0 .found, clip-there _ _ (p .1) (passes (p .0)) _ (p .2) _ (c .node-at .ensures) (p .3))
+
+returns : tie.Need-returns
+unfolding duration nodeLength nodeOf
+returns c = rw (c .duration .ensures, c .before .rate .ensures, c .before .before .sample-count .ensures, c .before .before .before .node-at .ensures)
+
+pub node-length-spec : {M : Type 1} → statement M
+node-length-spec = tie.close (tie.spec node-at-requires sample-count-requires (λ c κs. search needs) (λ c κs. search needs) returns)

@@ -1,0 +1,86 @@
+-- `blend_tree::synchronize::synchronize_node` meets its contract: the inputs of a node that is touched are clip nodes of the state. Assumes nothing.
+use borrow.Author.Needs.{needs}
+use borrow.Author.Tests.{not-true, not-false}
+use Prim.Native.Nat.{_<_}
+use mathlib.Core.Path.{_≡_, sym, _∙_}
+use mathlib.Core.Bool.{true}
+use native.Mathlib.Omega.{arith}
+use Rattle.model.specs.Plan.{isClip}
+use Rattle.model.specs.Tree.{isTouched, synchronizeNode}
+use Rattle.blend_tree.proofs.SynchronizeLaws.{passes, touched-inputs, both-synchronized, a-there, b-there, parameter-there}
+use Rattle.blend_tree.proofs.synchronize.synchronize_node.Statement.{statement}
+use Rattle.blend_tree.proofs.synchronize.synchronize_node.Tie as tie
+
+touched : (c : tie.After-node-at) → let a = c .before .before .before .before .before .args in isTouched (a .plan .now) (a .here .state) (a .i) ≡ true
+touched c = sym (c .before .before .is-touched .ensures) ∙ not-false _ (c .before .if1 .left)
+
+-- both inputs are clip nodes of the state, and the parameter is one of the player's
+known : (c : tie.After-node-at)
+    → let a = c .before .before .before .before .before .args in
+    let n = c .node-at .result in
+    (n .a < a .here .nodes) × (isClip (a .plan .now) (a .here .state) (n .a) ≡ true) × (n .b < a .here .nodes) × (isClip (a .plan .now) (a .here .state) (n .b) ≡ true) × (n .parameter < 32)
+known c =
+    let p = c .before .before .before .before .before .pre in
+    let t = touched-inputs _ _ _ _ (c .node-at .ensures) (touched c) in
+    let ok = passes (p .0) in
+    let e = c .node-at .ensures in
+    (a-there _ _ (p .1) ok _ (p .3) _ e (t .0), t .1, b-there _ _ (p .1) ok _ (p .3) _ e (t .0), t .2, parameter-there _ _ (p .1) ok _ (p .3) _ e (t .0))
+
+is-touched-requires : tie.Need-is-touched-requires
+is-touched-requires c κs = let p = c .before .before .pre in (passes (p .0), p .1, p .3)
+
+returns : tie.Need-returns
+unfolding synchronizeNode
+returns c = rw (sym (c .before .is-touched .ensures) ∙ not-true _ (c .if1 .taken))
+
+node-at-requires : tie.Need-node-at-requires
+node-at-requires c κs = let p = c .before .before .before .before .pre in (passes (p .0), p .1, p .3)
+
+node-length-requires : tie.Need-node-length-requires
+node-length-requires c κs =
+    let p = c .before .before .before .before .before .pre in
+    (p .0, p .1, known c .0, known c .1)
+
+node-length-requires-2 : tie.Need-node-length-requires-2
+node-length-requires-2 c κs =
+    let n = c .before in
+    let p = n .before .before .before .before .before .pre in
+    (p .0, p .1, known n .2, known n .3)
+
+synchronize-input-requires : tie.Need-synchronize-input-requires
+synchronize-input-requires c κs =
+    let l = c .before .before .before .before in
+    let n = l .before in
+    let p = n .before .before .before .before .before .pre in
+    (passes (p .0), p .1, p .2, known n .0, known n .1, l .node-length .ensures)
+
+synchronize-input-requires-2 : tie.Need-synchronize-input-requires-2
+synchronize-input-requires-2 c κs =
+    let l = c .before .before .before .before .before in
+    let n = l .before .before in
+    let p = n .before .before .before .before .before .pre in
+    (passes (p .0), p .1, p .2, known n .2, known n .3, l .node-length2 .ensures)
+
+returns-2 : tie.Need-returns-2
+returns-2 c =
+    let y = c .before .before in
+    let t = y .before .before in
+    let b = t .before .before in
+    let n = b .before .before in
+    both-synchronized _ _ _ _ (n .node-at .ensures) _ _ _ _ _ _ _ _ _ (touched n) (b .before .node-length .ensures) (b .node-length2 .ensures) (t .target-length .ensures) (y .synchronize-input .ensures) (c .synchronize-input2 .ensures)
+
+pub synchronize-node-spec : {M : Type 1} → statement M
+synchronize-node-spec =
+    tie.close
+    (tie.spec
+    is-touched-requires
+    returns
+    node-at-requires
+    node-length-requires
+    node-length-requires-2
+    (λ c. omega (arith, known (c .before .before)))
+    (λ c. known (c .before .before) .4)
+    (λ c κs. search needs)
+    synchronize-input-requires
+    synchronize-input-requires-2
+    returns-2)
