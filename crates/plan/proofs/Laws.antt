@@ -22,9 +22,9 @@ pub passed : (a : Answer) (v : Verdict) → a ≡ Accepted → values a ≡ v �
 unfolding values
 passed a v q e = sym e ∙ rw q
 
--- past checks that passed, the next one's answer is the answer to all
-pub goes : (a v w : Verdict) → v ≡ accepted → a ≡ w → a ≡ v then w
-goes a v w q e = e ∙ sym (then-accepted v w q)
+-- past a check that passed (or a row of them: v), the next one's answer is the answer to both
+pub goes : (a b : Answer) (v w : Verdict) → a ≡ Accepted → values a ≡ v → values b ≡ w → values b ≡ v then w
+goes a b v w q e n = n ∙ sym (then-accepted v w (passed a v q e))
 
 -- ---- a loop over `each`
 
