@@ -5,6 +5,7 @@ pub mod Totals
 pub mod Answers
 pub mod Tests
 pub mod State
+pub mod Trees
 pub mod Passed
 pub mod Numbers
 pub mod ClipNodes

@@ -1,5 +1,6 @@
 -- Facts about a plan whose check accepted.
-use Prim.Native.Nat.{ℕ, _≤_, _<_}
+use Prim.Native.Nat.{ℕ, _*_, _≤_, _<_}
+use native.Mathlib.Omega.{arith}
 use mathlib.Core.Path.{_≡_}
 use mathlib.Core.Bool.{false}
 use mathlib.Core.List.{List}
@@ -7,11 +8,13 @@ use lib.ListN.{length}
 use lib.Dec.{ltb}
 use borrow.Author.Tests.{ltb-true, leb-true, eqb-true}
 use Rattle.model.specs.Answers.{accepted, each}
-use Rattle.model.specs.Plan.{maxJoints, maxClips, maxStates, maxSamples, jointCount, clipCount, parameterCount, stateCount, initialState, initialStateAt, parentAt, parent, isRoot, sampleCountAt, sampleCount, numbersLength}
+use Rattle.model.specs.Plan.{maxJoints, maxClips, maxStates, maxSamples, maxTransitions, jointCount, clipCount, parameterCount, stateCount, initialState, initialStateAt, parentAt, parent, isRoot, sampleCountAt, sampleCount, nodeCount, clipNodesAmong, clipNodesBefore, transitionCount, transitionsBefore, numbersLength}
 use Rattle.model.specs.Check.{check, checkHeader, checkParent, checkSampleCount, checkState}
 use Rattle.model.specs.Laws.Answers.{then-left, then-right, each-at, require-true}
 use Rattle.model.specs.Laws.Tests.{word-true, word-there, or-right, within-low, within-high}
-use Rattle.model.specs.Laws.State.{target-below}
+use Rattle.model.specs.Laws.State.{target-below, few-nodes, few-transitions}
+use Rattle.model.specs.Laws.Totals.{total-most}
+use Rattle.model.specs.Laws.Trees.{clip-nodes-half}
 use Rattle.model.specs.Unseen.{Reachable, initial, target}
 
 module _ (plan : List ℕ) (n : ℕ) (ok : check plan n ≡ accepted) where
@@ -83,6 +86,17 @@ module _ (plan : List ℕ) (n : ℕ) (ok : check plan n ≡ accepted) where
   pub sample-count-there : (c : ℕ) → c < clipCount plan → sampleCountAt plan c < length plan
   unfolding checkSampleCount
   sample-count-there c h = word-there _ _ _ _ (each-at _ _ counts-passed c h)
+
+  -- sums over the states
+  pub few-transitions-before : (s : ℕ) → s ≤ stateCount plan → transitionsBefore plan s ≤ s * maxTransitions
+  unfolding transitionsBefore
+  few-transitions-before s h = total-most (transitionCount plan) maxTransitions s (λ u l. few-transitions plan u (state-passed u (omega arith)))
+
+  pub few-clip-nodes-before : (s : ℕ) → s ≤ stateCount plan → clipNodesBefore plan s ≤ s * 16
+  unfolding clipNodesBefore
+  few-clip-nodes-before s h =
+      total-most (λ u. clipNodesAmong plan u (nodeCount plan u)) 16 s
+      (λ u l. let ok-state = state-passed u (omega arith) in omega (arith, clip-nodes-half plan u ok-state, few-nodes plan u ok-state))
 
   pub numbers-fit : n ≡ numbersLength plan
   unfolding check
