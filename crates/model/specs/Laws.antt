@@ -4,6 +4,7 @@ pub mod Table
 pub mod Totals
 pub mod Answers
 pub mod Tests
+pub mod Header
 pub mod State
 pub mod Trees
 pub mod Passed
