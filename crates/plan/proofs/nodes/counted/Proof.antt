@@ -8,14 +8,13 @@ use Rattle.plan.proofs.nodes.counted.Tie as tie
 
 returns : tie.Need-returns
 returns c =
-    let start = c .before .before .before in
-    let clip = clip-read _ _ _ _ _ (start .pre .0) (c .before .word .ensures .0) (c .if1 .taken) in
+    let clip = clip-read _ _ _ _ (c .before .before .before .pre .0) _ (c .before .word .ensures .0) (c .if1 .taken) in
     (omega (arith, clip-counts _ _ _ clip), omega arith)
 
 returns-2 : tie.Need-returns-2
 returns-2 c =
     let start = c .before .before .before in
-    let blend = blend-read _ _ _ _ _ (start .pre .0) (c .before .word .ensures .0) (c .if1 .left) in
+    let blend = blend-read _ _ _ _ (start .pre .0) _ (c .before .word .ensures .0) (c .if1 .left) in
     (start .pre .2 ∙ sym (blend-counts _ _ _ blend), omega arith)
 
 pub counted-spec : {M : Type 1} → statement M
