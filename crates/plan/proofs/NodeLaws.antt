@@ -1,5 +1,5 @@
 -- Laws of a node's check, of the marks and of the clip nodes' numbers, over plain values. Assumes nothing.
-use Prim.Native.Nat.{ℕ, suc, _+_, _≤_, _<_}
+use Prim.Native.Nat.{ℕ, suc, _+_, _*_, _≤_, _<_}
 use native.Mathlib.Omega.{arith}
 use native.Mathlib.Decide.{ℕ-discrete, decLt}
 use native.Mathlib.Numerals.{add-one}
@@ -8,10 +8,11 @@ use mathlib.Core.Bool.{Bool, true, false, not, _&&_, _||_, or-false, or-true, or
 use mathlib.Core.List.{List}
 use denote.Enum.Declared.{tagOf}
 use lib.Dec.{ltb, leb, eqb}
-use lib.ListN.{getD, length, set, length-set}
+use lib.ListN.{getD, length, set, length-set, replicate, getD-replicate}
 use lib.Seq.{getD-set-same, getD-set-other}
 use borrow.Author.Tests.{lt-ltb, le-ltb, eq-eqb, ne-eqb, not-true, not-false}
 use Rattle.model.specs.declared.Answer.{Answer}
+use Rattle.model.specs.declared.Answer.the-variants.{Accepted, Refused}
 use Rattle.model.proofs.Answer.{the-type}
 use Rattle.model.specs.Answers.{Verdict, accepted, refused, values, _then_, each, require}
 use Rattle.model.specs.Plan.{maxClipNodes, word, clipCount, parameterCount, kindAt, kind, isClip, inputA, inputB, nodeParameter, total, clipNodesAmong, clipNode}
@@ -19,6 +20,11 @@ use Rattle.model.specs.Check.{wordIs, used, checkNode}
 use Rattle.model.specs.Laws.Answers.{each-next, each-stops}
 use Rattle.plan.specs.Parts.{checkClip, checkBlend, Marks}
 use Rattle.plan.proofs.Laws.{stops}
+
+pub not-accepted : (a : Answer) → tagOf the-type a ≡ 1 → values a ≡ accepted → ⊥
+unfolding values
+not-accepted Accepted t e = omega (arith, t)
+not-accepted (Refused n p) t e = let z : _≡_ {A = ℕ} 0 1 = cc in omega arith
 
 -- ---- the two ways to go on after a node's kind
 
@@ -31,6 +37,10 @@ after-skipped : (k a b p : Verdict) → k then accepted then a then b then p ≡
 unfolding _then_
 after-skipped accepted a b p = refl
 after-skipped (refused number place rest) a b p = refl
+
+pub kind-place : (plan : List ℕ) (s from i : ℕ) → from ≡ kindAt plan s 0 → from + 4 * i ≡ kindAt plan s i
+unfolding kindAt
+kind-place plan s from i e = omega arith
 
 -- node i of state s, whose kind stands at `at`
 module _ (plan : List ℕ) (s i at : ℕ) (place : at ≡ kindAt plan s i) where
@@ -94,6 +104,13 @@ module _ (plan : List ℕ) (s i : ℕ) where
   pub marks-clip : (marks : List Bool) → isClip plan s i ≡ true → Marks plan s i marks → Marks plan s (suc i) marks
   unfolding used
   marks-clip marks e before = record { mark = λ k h. before .mark k h ∙ rw e (sym (or-false (used plan s i k))) }
+
+  pub marks-all : (marks : List Bool) (n : ℕ) → i ≤ n → n ≤ i → Marks plan s i marks → Marks plan s n marks
+  marks-all marks n h k m = let q : n ≡ i = omega arith in rw q m
+
+pub marks-none : (plan : List ℕ) (s : ℕ) → Marks plan s 0 (replicate 32 false)
+unfolding used
+marks-none plan s = record { mark = λ k h. getD-replicate 32 k false false h }
 
 set-mark : (marks : List Bool) (a k : ℕ) → k < length marks → getD (set marks a true) k false ≡ getD marks k false || eqb a k
 set-mark marks a k h = go (ℕ-discrete a k)
