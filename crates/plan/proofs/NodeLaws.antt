@@ -83,8 +83,8 @@ module _ (plan : List ℕ) (s i at : ℕ) (place : at ≡ kindAt plan s i) where
         go (no h) = rw (le-ltb k i (omega arith))
 
     pub blend-words : checkBlend plan s i ≡ wordIs plan 4 (at + 1) (ltb (word plan (at + 1)) i && not (getD marks (word plan (at + 1)) false)) then
-          wordIs plan 4 (at + 2) (ltb (word plan (at + 2)) i && not (getD marks (word plan (at + 2)) false) && not (eqb (word plan (at + 1)) (word plan (at + 2)))) then
-          wordIs plan 4 (at + 3) (ltb (word plan (at + 3)) (parameterCount plan))
+        wordIs plan 4 (at + 2) (ltb (word plan (at + 2)) i && not (getD marks (word plan (at + 2)) false) && not (eqb (word plan (at + 1)) (word plan (at + 2)))) then
+        wordIs plan 4 (at + 3) (ltb (word plan (at + 3)) (parameterCount plan))
     unfolding checkBlend inputA inputB nodeParameter
     blend-words = rw (← place, free (word plan (at + 1)), free (word plan (at + 2)))
 

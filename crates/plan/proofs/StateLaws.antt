@@ -1,6 +1,7 @@
 -- Laws of a state's check, over plain values. Assumes nothing.
-use Prim.Native.Nat.{ℕ, zero, suc, _+_, _*_, _-_, _≤_, _<_}
+use Prim.Native.Nat.{ℕ, zero, suc, _+_, _*_, _-_, _/_, _≤_, _<_}
 use native.Mathlib.Omega.{arith}
+use native.Mathlib.Numerals.{add-one}
 use mathlib.Core.Path.{_≡_, refl, sym, _∙_}
 use mathlib.Core.Bool.{Bool, false}
 use mathlib.Core.List.{List}
@@ -12,10 +13,12 @@ use Rattle.model.specs.declared.Answer.{Answer}
 use Rattle.model.specs.declared.Answer.the-variants.{Accepted}
 use Rattle.model.proofs.Answer.{the-type}
 use Rattle.model.specs.Answers.{Verdict, accepted, values, _then_, each, require}
-use Rattle.model.specs.Plan.{word, parameterCount, stateCount, stateAt, nodeCount, kindAt, afterNodes, transitionCountAt, transitionCount, conditionParameterAt, conditionParameter, operator, targetState, total, clipNodesAmong, clipNodesBefore, clipNode}
+use Rattle.model.specs.Plan.{word, parameterCount, stateCount, stateAt, nodeCount, kindAt, afterNodes, afterTransitions, transitionCountAt, transitionCount, conditionParameterAt, conditionParameter, operator, targetState, total, clipNodesAmong, clipNodesBefore, clipNode, transitionsBefore}
 use Rattle.model.specs.Check.{wordIs, within, used, checkNode, checkTransition, checkState}
 use Rattle.model.specs.Laws.Answers.{then-accepted}
 use Rattle.model.specs.Laws.Tests.{word-true, within-low, within-high}
+use Rattle.model.specs.Laws.State.{few-nodes, few-transitions}
+use Rattle.model.specs.Laws.Trees.{clip-nodes-divided}
 use Rattle.plan.specs.Parts.{Marks}
 use Rattle.plan.proofs.Laws.{stops, passed}
 
@@ -39,8 +42,8 @@ each-same f g (suc n) same = rw (each-same f g n (λ k h. same k (omega arith)),
 
 parts : (plan : List ℕ) (s at k : ℕ) → at ≡ stateAt plan s → k ≡ word plan at
     → checkState plan s ≡ wordIs plan 2 at (within 1 (word plan at) 31) then each k (checkNode plan s) then each (k - 1) (λ j. require (used plan s k j) 4 at) then
-        wordIs plan 2 (at + 1 + 4 * k) (leb (word plan (at + 1 + 4 * k)) 16) then
-        each (word plan (at + 1 + 4 * k)) (checkTransition plan s)
+    wordIs plan 2 (at + 1 + 4 * k) (leb (word plan (at + 1 + 4 * k)) 16) then
+    each (word plan (at + 1 + 4 * k)) (checkTransition plan s)
 unfolding checkState nodeCount transitionCountAt transitionCount afterNodes
 parts plan s at k place count = rw (count, place)
 
@@ -98,3 +101,34 @@ module _ {plan : List ℕ} {s at k : ℕ} (so-far : Tree plan s at k) where
     pub transitions-end : (a : Answer) → values a ≡ each n (checkTransition plan s) → values a ≡ checkState plan s
     transitions-end a e =
         (rw count at e) ∙ sym (then-accepted _ _ (then-accepted _ _ (so-far .passes) ∙ passes)) ∙ sym (parts plan s at k (so-far .counted .place) (so-far .counted .count))
+
+-- ---- from state s, which passed and has k nodes and t transitions, to the next
+
+module _ (plan : List ℕ) (s at k t : ℕ) (place : at ≡ stateAt plan s) (nodes : k ≡ word plan at) (transitions : t ≡ word plan (at + 1 + 4 * k)) where
+  same-nodes : k ≡ nodeCount plan s
+  unfolding nodeCount
+  same-nodes = rw (nodes, place)
+
+  same-transitions : t ≡ transitionCount plan s
+  unfolding transitionCount transitionCountAt afterNodes
+  same-transitions = rw (transitions, nodes, place)
+
+  pub next-place : at + 1 + 4 * k + 1 + 3 * t ≡ stateAt plan (s + 1)
+  unfolding stateAt afterTransitions afterNodes
+  next-place = rw (add-one s, transitions, nodes, place)
+
+  pub next-transitions : (n : ℕ) → n ≡ transitionsBefore plan s → n + t ≡ transitionsBefore plan (s + 1)
+  unfolding transitionsBefore total
+  next-transitions n e = rw (add-one s, e, same-transitions)
+
+  module _ (passes : checkState plan s ≡ accepted) where
+    pub few : (k ≤ 31) × (t ≤ 16)
+    few = rw (same-nodes, same-transitions) (few-nodes plan s passes, few-transitions plan s passes)
+
+    pub next-clip-nodes : (n : ℕ) → n ≡ clipNodesBefore plan s → n + (k + 1) / 2 ≡ clipNodesBefore plan (s + 1)
+    unfolding clipNodesBefore total
+    next-clip-nodes n e = rw (add-one s, e, same-nodes, clip-nodes-divided plan s passes)
+
+-- the last state's end is that of all
+pub ends : (f : ℕ → ℕ) (x i n : ℕ) → x ≡ f i → i ≤ n → n ≤ i → x ≡ f n
+ends f x i n e h k = let q : n ≡ i = omega arith in rw q e
