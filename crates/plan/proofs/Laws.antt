@@ -2,7 +2,7 @@
 use Prim.Native.Nat.{ℕ, _+_, _≤_, _<_}
 use native.Mathlib.Numerals.{add-one}
 use native.Mathlib.Omega.{arith}
-use mathlib.Core.Path.{_≡_, refl, sym, _∙_}
+use mathlib.Core.Path.{_≡_, sym, _∙_}
 use denote.Enum.Declared.{tagOf}
 use Rattle.model.specs.declared.Answer.{Answer}
 use Rattle.model.specs.declared.Answer.the-variants.{Accepted, Refused}
@@ -17,6 +17,12 @@ pub stops : (a : Answer) (v w : Verdict) → tagOf the-type a ≡ 1 → values a
 unfolding values
 stops Accepted v w t e = absurd (omega (arith, t))
 stops (Refused n p) v w t e = sym (then-refused v w n p 0 (sym e))
+
+-- such an answer accepts nothing
+pub never : (a : Answer) → tagOf the-type a ≡ 1 → values a ≡ accepted → ⊥
+unfolding values
+never Accepted t e = omega (arith, t)
+never (Refused n p) t e = let z : _≡_ {A = ℕ} 0 1 = cc in omega arith
 
 pub passed : (a : Answer) (v : Verdict) → a ≡ Accepted → values a ≡ v → v ≡ accepted
 unfolding values

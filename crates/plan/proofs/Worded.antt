@@ -1,19 +1,26 @@
--- Facts about a plan whose words pass, and what its lengths come to. Assumes nothing.
+-- Facts about a plan whose words pass, and how the parts make the whole check. Assumes nothing.
 use Prim.Native.Nat.{ℕ, _+_, _*_, _≤_}
 use native.Mathlib.Nat.{mul-le-mul}
 use native.Mathlib.Omega.{arith}
-use mathlib.Core.Path.{_≡_}
+use mathlib.Core.Path.{_≡_, refl, sym, _∙_}
 use mathlib.Core.List.{List}
-use Rattle.model.specs.Answers.{accepted}
+use denote.Enum.Declared.{tagOf}
+use Rattle.model.proofs.Answer.{the-type}
+use Rattle.model.specs.Answers.{Verdict, accepted, refused, values, _then_}
 use Rattle.model.specs.Plan.{maxTransitions, jointCount, clipCount, stateCount, transitionCount, transitionsBefore, samplesBefore, posesAt, numbersLength}
-use Rattle.model.specs.Check.{checkHeader}
-use Rattle.model.specs.Laws.Answers.{then-left, then-right, each-at}
+use Rattle.model.specs.Check.{checkHeader, check}
+use Rattle.model.specs.Laws.Answers.{then-left, then-right, then-accepted, then-refused, each-at}
 use Rattle.model.specs.Laws.State.{few-transitions}
 use Rattle.model.specs.Laws.Totals.{total-most}
 use Rattle.model.specs.Laws.Header as header
 use Rattle.layout.specs.declared.Layout.{Layout}
 use Rattle.layout.specs.Layout.{layoutOf}
-use Rattle.plan.specs.Parts.{checkWords, Worded}
+use Rattle.plan.specs.declared.states.States.{States}
+use Rattle.plan.specs.declared.Checked.{Checked}
+use Rattle.plan.specs.declared.Checked.the-variants.{Refused}
+use Rattle.plan.specs.Checked.{verdict, layoutIn, PlanChecked}
+use Rattle.plan.specs.Parts.{checkWords, WordsChecked, Worded, LengthsChecked}
+use Rattle.plan.proofs.Laws.{never}
 
 module _ (plan : List ℕ) (ok : Worded plan) where
   header-passed : checkHeader plan ≡ accepted
@@ -37,3 +44,21 @@ module _ (plan : List ℕ) (ok : Worded plan) where
 pub numbers-counted : (plan : List ℕ) (l : Layout) (s : ℕ) → l ≡ layoutOf plan → s ≡ samplesBefore plan (l .clips) → l .«poses_at» + s * l .joints * 8 ≡ numbersLength plan
 unfolding layoutOf numbersLength
 numbers-counted plan l s e h = rw (h, e)
+
+-- ---- the parts of the check
+
+-- where the words are refused, nothing is said of what stands beside the answer
+pub words-refuse : (plan : List ℕ) (r : States) → tagOf the-type (r .answer) ≡ 1 → values (r .answer) ≡ checkWords plan → WordsChecked plan r
+words-refuse plan r t e = record { answer = e; end = λ q. absurd (never (r .answer) t q); transitions = λ q. absurd (never (r .answer) t q) }
+
+module _ (plan : List ℕ) (n : ℕ) where
+  pub refused-by-words : (number place : ℕ) → refused number place 0 ≡ checkWords plan → PlanChecked plan n (Refused number place)
+  unfolding check checkWords verdict layoutIn
+  refused-by-words number place e = record { answer = sym (then-refused _ _ _ _ _ (then-refused _ _ _ _ _ (sym e))); layout = refl }
+
+  past : (u v w : Verdict) → u ≡ accepted → u then v then w ≡ v then w
+  past u v w e = rw (then-accepted u v e)
+
+  pub left-to-lengths : (r : Checked) → Worded plan → LengthsChecked plan n r → PlanChecked plan n r
+  unfolding check checkWords
+  left-to-lengths r ok l = record { answer = l .answer ∙ sym (past _ _ _ ok); layout = l .layout }
