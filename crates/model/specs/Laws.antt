@@ -4,6 +4,8 @@ pub mod Table
 pub mod Totals
 pub mod Answers
 pub mod Tests
+pub mod Header
+pub mod Node
 pub mod State
 pub mod Trees
 pub mod Passed

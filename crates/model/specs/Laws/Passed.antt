@@ -6,10 +6,11 @@ use mathlib.Core.Bool.{false}
 use mathlib.Core.List.{List}
 use lib.ListN.{length}
 use lib.Dec.{ltb}
-use borrow.Author.Tests.{ltb-true, leb-true, eqb-true}
+use borrow.Author.Tests.{ltb-true, eqb-true}
 use Rattle.model.specs.Answers.{accepted, each}
 use Rattle.model.specs.Plan.{maxJoints, maxClips, maxStates, maxSamples, maxTransitions, jointCount, clipCount, parameterCount, stateCount, initialState, initialStateAt, parentAt, parent, isRoot, sampleCountAt, sampleCount, nodeCount, clipNodesAmong, clipNodesBefore, transitionCount, transitionsBefore, numbersLength}
 use Rattle.model.specs.Check.{check, checkHeader, checkParent, checkSampleCount, checkState}
+use Rattle.model.specs.Laws.Header as header
 use Rattle.model.specs.Laws.Answers.{then-left, then-right, each-at, require-true}
 use Rattle.model.specs.Laws.Tests.{word-true, word-there, or-right, within-low, within-high}
 use Rattle.model.specs.Laws.State.{target-below, few-nodes, few-transitions}
@@ -37,8 +38,7 @@ module _ (plan : List ℕ) (n : ℕ) (ok : check plan n ≡ accepted) where
 
   -- what follows
   pub initial-below : initialState plan < stateCount plan
-  unfolding checkHeader
-  initial-below = ltb-true _ _ (word-true _ _ _ _ (then-right _ _ header-passed))
+  initial-below = header.initial-below plan header-passed
 
   pub parent-earlier : (j : ℕ) → j < jointCount plan → isRoot plan j ≡ false → parent plan j < j
   unfolding checkParent
@@ -56,28 +56,22 @@ module _ (plan : List ℕ) (n : ℕ) (ok : check plan n ≡ accepted) where
   state-passed s below = each-at _ _ states-passed s below
 
   pub header-there : initialStateAt < length plan
-  unfolding checkHeader
-  header-there = word-there _ _ _ _ (then-right _ _ header-passed)
+  header-there = header.header-there plan header-passed
 
   pub some-joints : 0 < jointCount plan
-  unfolding checkHeader
-  some-joints = within-low _ _ _ (word-true _ _ _ _ (then-left _ _ (then-left _ _ (then-left _ _ (then-left _ _ header-passed)))))
+  some-joints = header.some-joints plan header-passed
 
   pub few-joints : jointCount plan ≤ maxJoints
-  unfolding checkHeader
-  few-joints = within-high _ _ _ (word-true _ _ _ _ (then-left _ _ (then-left _ _ (then-left _ _ (then-left _ _ header-passed)))))
+  few-joints = header.few-joints plan header-passed
 
   pub few-clips : clipCount plan ≤ maxClips
-  unfolding checkHeader
-  few-clips = within-high _ _ _ (word-true _ _ _ _ (then-right _ _ (then-left _ _ (then-left _ _ (then-left _ _ header-passed)))))
+  few-clips = header.few-clips plan header-passed
 
   pub few-states : stateCount plan ≤ maxStates
-  unfolding checkHeader
-  few-states = within-high _ _ _ (word-true _ _ _ _ (then-right _ _ (then-left _ _ header-passed)))
+  few-states = header.few-states plan header-passed
 
   pub few-parameters : parameterCount plan ≤ 32
-  unfolding checkHeader
-  few-parameters = leb-true _ _ (word-true _ _ _ _ (then-right _ _ (then-left _ _ (then-left _ _ header-passed))))
+  few-parameters = header.few-parameters plan header-passed
 
   pub parent-there : (j : ℕ) → j < jointCount plan → parentAt j < length plan
   unfolding checkParent

@@ -10,6 +10,7 @@ use Rattle.model.specs.Answers.{accepted}
 use Rattle.model.specs.Plan.{maxNodes, maxTransitions, maxClipNodes, clipCount, parameterCount, stateCount, stateAt, nodeCount, nodeParameterAt, isClip, inputA, inputB, nodeParameter, clipNode, transitionCountAt, transitionCount, targetStateAt, conditionParameter, targetState}
 use Rattle.model.specs.Check.{used, checkNode, checkState, checkTransition}
 use Rattle.model.specs.Laws.Answers.{then-left, then-right, each-at, require-true}
+use Rattle.model.specs.Laws.Node.{input-a-earlier, input-b-earlier}
 use Rattle.model.specs.Laws.Tests.{word-true, word-there, and-left, and-right, not-true, within-low, within-high}
 
 module _ (plan : List ℕ) (s : ℕ) (passed : checkState plan s ≡ accepted) where
@@ -30,12 +31,10 @@ module _ (plan : List ℕ) (s : ℕ) (passed : checkState plan s ≡ accepted) w
   clip-below i h e = ltb-true _ _ (rw e at (word-true _ _ _ _ (then-right _ _ (then-left _ _ (then-left _ _ (node-passed i h))))))
 
   pub a-earlier : (i : ℕ) → i < nodeCount plan s → isClip plan s i ≡ false → inputA plan s i < i
-  unfolding checkNode
-  a-earlier i h e = ltb-true _ _ (and-left _ _ (rw e at (word-true _ _ _ _ (then-right _ _ (then-left _ _ (then-left _ _ (node-passed i h)))))))
+  a-earlier i h e = input-a-earlier plan s i (node-passed i h) e
 
   pub b-earlier : (i : ℕ) → i < nodeCount plan s → isClip plan s i ≡ false → inputB plan s i < i
-  unfolding checkNode
-  b-earlier i h e = ltb-true _ _ (and-left _ _ (and-left _ _ (rw e at (word-true _ _ _ _ (then-right _ _ (then-left _ _ (node-passed i h)))))))
+  b-earlier i h e = input-b-earlier plan s i (node-passed i h) e
 
   pub parameter-below : (i : ℕ) → i < nodeCount plan s → isClip plan s i ≡ false → nodeParameter plan s i < parameterCount plan
   unfolding checkNode

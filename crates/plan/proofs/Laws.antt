@@ -1,0 +1,50 @@
+-- How answers follow one another, over plain values: through the `else` of a check, past it, and through a loop of checks. Assumes nothing.
+use Prim.Native.Nat.{ℕ, _+_, _≤_, _<_}
+use native.Mathlib.Numerals.{add-one}
+use native.Mathlib.Omega.{arith}
+use mathlib.Core.Path.{_≡_, sym, _∙_}
+use denote.Enum.Declared.{tagOf}
+use Rattle.model.specs.declared.Answer.{Answer}
+use Rattle.model.specs.declared.Answer.the-variants.{Accepted, Refused}
+use Rattle.model.proofs.Answer.{the-type}
+use Rattle.model.specs.Answers.{Verdict, accepted, values, _then_, each}
+use Rattle.model.specs.Laws.Answers.{then-accepted, then-refused, each-next, each-stops}
+
+-- ---- one check after another
+
+-- an answer that is not `Accepted` is the answer to all that follows too
+pub stops : (a : Answer) (v w : Verdict) → tagOf the-type a ≡ 1 → values a ≡ v → values a ≡ v then w
+unfolding values
+stops Accepted v w t e = absurd (omega (arith, t))
+stops (Refused n p) v w t e = sym (then-refused v w n p 0 (sym e))
+
+-- such an answer accepts nothing
+pub never : (a : Answer) → tagOf the-type a ≡ 1 → values a ≡ accepted → ⊥
+unfolding values
+never Accepted t e = omega (arith, t)
+never (Refused n p) t e = let z : _≡_ {A = ℕ} 0 1 = cc in omega arith
+
+pub passed : (a : Answer) (v : Verdict) → a ≡ Accepted → values a ≡ v → v ≡ accepted
+unfolding values
+passed a v q e = sym e ∙ rw q
+
+-- past a check that passed (or a row of them: v), the next one's answer is the answer to both
+pub goes : (a b : Answer) (v w : Verdict) → a ≡ Accepted → values a ≡ v → values b ≡ w → values b ≡ v then w
+goes a b v w q e n = n ∙ sym (then-accepted v w (passed a v q e))
+
+-- ---- a loop over `each`
+
+module _ (f : ℕ → Verdict) (a : Answer) (i : ℕ) (so-far : each i f ≡ accepted) (this : values a ≡ f i) where
+  pub each-goes : a ≡ Accepted → each (i + 1) f ≡ accepted
+  each-goes q = rw add-one (each-next i f so-far ∙ passed a (f i) q this)
+
+  pub each-refuses : (n : ℕ) → i < n → tagOf the-type a ≡ 1 → values a ≡ each n f
+  unfolding values
+  each-refuses n h t = at a t this
+    where
+      at : (b : Answer) → tagOf the-type b ≡ 1 → values b ≡ f i → values b ≡ each n f
+      at Accepted t e = absurd (omega (arith, t))
+      at (Refused m p) t e = sym (each-stops n f i m p 0 h so-far (sym e))
+
+pub each-ends : (f : ℕ → Verdict) (i n : ℕ) → each i f ≡ accepted → i ≤ n → n ≤ i → accepted ≡ each n f
+each-ends f i n e h k = let q : n ≡ i = omega arith in rw q (sym e)

@@ -1,0 +1,82 @@
+-- `plan::nodes::check_nodes` meets its contract. Invariant: the first i nodes pass, and the marks and the clip node's number are theirs. Assumes nothing.
+use borrow.Author.Needs.{needs}
+use Prim.Native.Nat.{_+_, _-_, _≤_}
+use native.Mathlib.Numerals.{add-one}
+use native.Mathlib.Omega.{arith}
+use mathlib.Core.Path.{_≡_, refl, _∙_}
+use Rattle.model.specs.Answers.{accepted, values, each}
+use Rattle.model.specs.Plan.{clipNode}
+use Rattle.model.specs.Check.{checkNode}
+use Rattle.plan.specs.Parts.{Marks}
+use Rattle.plan.proofs.Laws.{passed, each-goes, each-refuses, each-ends}
+use Rattle.plan.proofs.NodeLaws.{kind-place, marks-none, marks-all, not-accepted}
+use Rattle.plan.proofs.nodes.check_nodes.Statement.{statement}
+use Rattle.plan.proofs.nodes.check_nodes.Tie as tie
+
+abbrev Inv-loop : tie.InvT-loop
+Inv-loop plan state nodes-at n clips parameters first-clip-node used₀ clip-node₀ i₀ used clip-node i =
+    (each i (checkNode plan state) ≡ accepted) × Marks plan state i used × (clip-node ≡ clipNode plan state i) × (clip-node ≤ first-clip-node + i) × (i ≤ n)
+
+abbrev μ-loop : tie.MeasureT-loop
+μ-loop plan state nodes-at n clips parameters first-clip-node used₀ clip-node₀ i₀ used clip-node i = n - i
+
+loop-holds : tie.Need-loop-holds Inv-loop μ-loop
+unfolding each
+loop-holds c = (refl, marks-none _ _, c .before .pre .6, omega arith, omega arith)
+
+check-node-requires : tie.Need-check-node-requires Inv-loop μ-loop
+check-node-requires c κs =
+    let l = c .before .before in
+    let pre = l .before .before .pre in
+    (omega arith, kind-place _ _ _ _ (pre .1), omega arith, pre .3, pre .4, l .loop .inv .2, l .loop .inv .1)
+
+returns : tie.Need-returns Inv-loop μ-loop
+returns c =
+    let n = c .before .before in
+    let i = n .before .before in
+    let t = c .before .match .keys2 in
+    record { answer = each-refuses _ _ _ (i .before .loop .inv .0) (n .check-node .ensures) _ (i .loop-test .taken) t; marks = λ e. absurd (not-accepted _ t e) }
+
+marked-requires : tie.Need-marked-requires Inv-loop μ-loop
+marked-requires c κs =
+    let n = c .before .before in
+    let l = n .before .before .before in
+    (omega arith, kind-place _ _ _ _ (l .before .before .pre .1), omega arith, passed _ _ (c .enum-told .given .1) (n .check-node .ensures), l .loop .inv .1)
+
+counted-requires : tie.Need-counted-requires Inv-loop μ-loop
+counted-requires c κs =
+    let l = c .before .before .before .before .before .before in
+    (kind-place _ _ _ _ (l .before .before .pre .1), omega arith, l .loop .inv .2)
+
+loop-again : tie.Need-loop-again Inv-loop μ-loop
+loop-again c =
+    let told = c .before .before in
+    let n = told .before .before in
+    let l = n .before .before .before in
+    (each-goes _ _ _ (l .loop .inv .0) (n .check-node .ensures) (told .enum-told .given .1), rw add-one (c .before .marked .ensures), rw add-one (c .counted .ensures .0), omega arith, omega arith)
+
+returns-2 : tie.Need-returns-2 Inv-loop μ-loop
+unfolding values
+returns-2 c =
+    let l = c .before .loop .inv in
+    record { answer = each-ends _ _ _ (l .0) (l .4) (c .loop-test .left); marks = λ e. marks-all _ _ _ _ _ (l .4) (c .loop-test .left) (l .1) }
+
+pub check-nodes-spec : {M : Type 1} → statement M
+check-nodes-spec =
+    tie.close
+    (tie.spec
+    Inv-loop
+    μ-loop
+    loop-holds
+    (search needs)
+    (search needs)
+    check-node-requires
+    (search needs)
+    (search needs)
+    returns
+    marked-requires
+    counted-requires
+    (search needs)
+    (search needs)
+    loop-again
+    returns-2)

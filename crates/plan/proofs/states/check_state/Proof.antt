@@ -1,0 +1,102 @@
+-- `plan::states::check_state` meets its contract: K, the nodes, that they are inputs, T and the transitions, in the definition's order. Assumes nothing.
+use borrow.Author.Needs.{needs}
+use native.Mathlib.Omega.{arith}
+use mathlib.Core.Path.{refl}
+use Rattle.plan.proofs.Laws.{passed}
+use Rattle.plan.proofs.StateLaws.{count-stops, clip-node-first, Counted, nodes-between, first-node-place, nodes-stop, Tree, inputs-stop, is-tree, transition-count-stops, first-transition-place, transitions-few, transitions-end}
+use Rattle.plan.proofs.states.check_state.Statement.{statement}
+use Rattle.plan.proofs.states.check_state.Tie as tie
+
+returns : tie.Need-returns
+returns c =
+    let k = c .before .before in
+    count-stops _ _ _ (k .before .before .pre .1) _ (k .word-within .ensures) (c .before .match .keys2)
+
+counted : (c : tie.After-word) → let a = c .before .before .before .before .before .args in Counted (a .plan .now) (a .state) (a .at) (c .word .result)
+counted c =
+    let k = c .before .before .before in
+    record { place = k .before .before .pre .1; count = c .word .ensures .0; passes = passed _ _ (c .before .enum-told .given .1) (k .word-within .ensures) }
+
+check-nodes-requires : tie.Need-check-nodes-requires
+check-nodes-requires c κs =
+    let pre = c .before .before .before .before .before .pre in
+    (omega arith, first-node-place (counted c), omega (arith, nodes-between (counted c)), pre .2, pre .3, pre .5, clip-node-first _ _ _ (pre .6))
+
+returns-2 : tie.Need-returns-2
+returns-2 c =
+    let n = c .before .before in
+    nodes-stop (counted (n .before)) _ (n .check-nodes .ensures .answer) (c .before .match2 .keys2)
+
+sub-check-used : tie.Need-sub-check-used
+sub-check-used c = omega (arith, nodes-between (counted (c .before .before .before .before)))
+
+check-used-requires : tie.Need-check-used-requires
+check-used-requires c κs = omega (arith, nodes-between (counted (c .before .before .before .before)))
+
+returns-3 : tie.Need-returns-3
+returns-3 c =
+    let u = c .before .before in
+    let t = u .before .before in
+    let n = t .before .before in
+    let nodes = n .check-nodes .ensures in
+    let told = t .enum-told3 .given .1 in
+    inputs-stop (counted (n .before)) (passed _ _ told (nodes .answer)) _ (nodes .marks (passed _ _ told refl)) _ (u .check-used .ensures) (c .before .match3 .keys2)
+
+tree : (c : tie.After-enum-told5) → let w = c .before .before .before .before .before .before .before in let a = w .before .before .before .before .before .args in Tree (a .plan .now) (a .state) (a .at) (w .word .result)
+tree c =
+    let u = c .before .before in
+    let t = u .before .before in
+    let n = t .before .before in
+    let nodes = n .check-nodes .ensures in
+    let told = t .enum-told3 .given .1 in
+    is-tree (counted (n .before)) (passed _ _ told (nodes .answer)) _ (nodes .marks (passed _ _ told refl)) _ (u .check-used .ensures) (c .enum-told5 .given .1)
+
+returns-4 : tie.Need-returns-4
+returns-4 c =
+    let p = c .before .before in
+    transition-count-stops (tree (p .before)) _ (p .word-up-to .ensures) (c .before .match4 .keys2)
+
+check-transitions-requires : tie.Need-check-transitions-requires
+check-transitions-requires c κs =
+    let p = c .before .before .before in
+    let so-far = tree (p .before) in
+    let w = p .before .before .before .before .before .before .before .before in
+    let pre = w .before .before .before .before .before .pre in
+    (omega (arith, pre .0, nodes-between (counted w)), first-transition-place so-far, transitions-few so-far _ (c .word2 .ensures .0) (passed _ _ (c .before .enum-told7 .given .1) (p .word-up-to .ensures)), pre .3, pre .4)
+
+returns-5 : tie.Need-returns-5
+returns-5 c =
+    let w = c .before in
+    let p = w .before .before .before in
+    transitions-end (tree (p .before)) _ (w .word2 .ensures .0) (passed _ _ (w .before .enum-told7 .given .1) (p .word-up-to .ensures)) _ (c .check-transitions .ensures)
+
+pub check-state-spec : {M : Type 1} → statement M
+check-state-spec =
+    tie.close
+    (tie.spec
+    (search needs)
+    (search needs)
+    (search needs)
+    returns
+    (search needs)
+    (search needs)
+    check-nodes-requires
+    (search needs)
+    (search needs)
+    returns-2
+    sub-check-used
+    check-used-requires
+    (search needs)
+    (search needs)
+    returns-3
+    (search needs)
+    (search needs)
+    (search needs)
+    (search needs)
+    (search needs)
+    (search needs)
+    returns-4
+    (search needs)
+    (search needs)
+    check-transitions-requires
+    returns-5)

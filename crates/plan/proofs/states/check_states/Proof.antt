@@ -1,0 +1,84 @@
+-- `plan::states::check_states` meets its contract. Invariant: the first s states pass, and the place, the clip nodes and the transitions are those after them. Assumes nothing.
+use borrow.Author.Needs.{needs}
+use Prim.Native.Nat.{_+_, _*_, _-_, _≤_}
+use native.Mathlib.Omega.{arith}
+use mathlib.Core.Path.{_≡_, refl}
+use Rattle.model.specs.Answers.{accepted, values, each}
+use Rattle.model.specs.Plan.{stateAt, total, clipNodesBefore, transitionsBefore}
+use Rattle.model.specs.Check.{checkState}
+use Rattle.plan.proofs.Laws.{passed, each-goes, each-refuses, each-ends}
+use Rattle.plan.proofs.NodeLaws.{not-accepted}
+use Rattle.plan.proofs.StateLaws.{few, next-place, next-clip-nodes, next-transitions, ends}
+use Rattle.plan.proofs.states.check_states.Statement.{statement}
+use Rattle.plan.proofs.states.check_states.Tie as tie
+
+abbrev Inv-loop : tie.InvT-loop
+Inv-loop plan from clips parameters states at₀ clip-node₀ transitions₀ s₀ at clip-node transitions s =
+    (each s (checkState plan) ≡ accepted) × (at ≡ stateAt plan s) × (clip-node ≡ clipNodesBefore plan s) × (transitions ≡ transitionsBefore plan s) × (s ≤ states) × (at ≤ 128 + 174 * s) × (clip-node ≤ 16 * s) × (transitions ≤ 16 * s)
+
+abbrev μ-loop : tie.MeasureT-loop
+μ-loop plan from clips parameters states at₀ clip-node₀ transitions₀ s₀ at clip-node transitions s = states - s
+
+loop-holds : tie.Need-loop-holds Inv-loop μ-loop
+unfolding each total clipNodesBefore transitionsBefore
+loop-holds c = (refl, c .before .pre .1, refl, refl, omega arith, omega arith, omega arith, omega arith)
+
+check-state-requires : tie.Need-check-state-requires Inv-loop μ-loop
+check-state-requires c κs =
+    let l = c .before in
+    let pre = l .before .before .pre in
+    (omega arith, l .loop .inv .1, pre .2, pre .3, pre .4, omega arith, l .loop .inv .2)
+
+returns : tie.Need-returns Inv-loop μ-loop
+returns c =
+    let p = c .before .before in
+    let i = p .before in
+    let t = c .before .match .keys2 in
+    record { answer = each-refuses _ _ _ (i .before .loop .inv .0) (p .check-state .ensures) _ (i .loop-test .taken) t; end = λ e. absurd (not-accepted _ t e); transitions = λ e. absurd (not-accepted _ t e) }
+
+loop-again : tie.Need-loop-again Inv-loop μ-loop
+loop-again c =
+    let w = c .before in
+    let told = w .before in
+    let p = told .before .before in
+    let l = p .before .before .loop .inv in
+    let nodes = w .word .ensures .0 in
+    let transitions = c .word2 .ensures .0 in
+    let ok = passed _ _ (told .enum-told .given .1) (p .check-state .ensures) in
+    let small = few _ _ _ _ _ (l .1) nodes transitions ok in
+    (each-goes _ _ _ (l .0) (p .check-state .ensures) (told .enum-told .given .1), next-place _ _ _ _ _ (l .1) nodes transitions, next-clip-nodes _ _ _ _ _ (l .1) nodes transitions ok _ (l .2), next-transitions _ _ _ _ _ (l .1) nodes transitions _ (l .3), omega arith, omega arith, omega arith, omega arith)
+
+returns-2 : tie.Need-returns-2 Inv-loop μ-loop
+unfolding values
+returns-2 c =
+    let l = c .before .loop .inv in
+    let out = c .loop-test .left in
+    let plan = c .before .before .before .args .plan .now in
+    record { answer = each-ends _ _ _ (l .0) (l .4) out; end = λ e. ends (stateAt plan) _ _ _ (l .1) (l .4) out; transitions = λ e. ends (transitionsBefore plan) _ _ _ (l .3) (l .4) out }
+
+pub check-states-spec : {M : Type 1} → statement M
+check-states-spec =
+    tie.close
+    (tie.spec
+    Inv-loop
+    μ-loop
+    loop-holds
+    check-state-requires
+    (search needs)
+    (search needs)
+    returns
+    (search needs)
+    (search needs)
+    (search needs)
+    (search needs)
+    (search needs)
+    (search needs)
+    (search needs)
+    (search needs)
+    (search needs)
+    (search needs)
+    (search needs)
+    (search needs)
+    (search needs)
+    loop-again
+    returns-2)

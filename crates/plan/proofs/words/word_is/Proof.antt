@@ -1,0 +1,21 @@
+-- `plan::words::word_is` meets its contract: the definition's two tests, in its order. Assumes nothing.
+use borrow.Author.Tests.{lt-ltb, le-ltb}
+use Rattle.model.specs.Answers.{values, _then_, require}
+use Rattle.model.specs.Check.{wordIs}
+use Rattle.plan.proofs.words.word_is.Statement.{statement}
+use Rattle.plan.proofs.words.word_is.Tie as tie
+
+returns : tie.Need-returns
+unfolding values wordIs _then_ require
+returns c = rw (le-ltb _ _ (c .if1 .taken))
+
+returns-2 : tie.Need-returns-2
+unfolding values wordIs _then_ require
+returns-2 c = rw (lt-ltb _ _ (c .before .if1 .left), c .if2 .taken)
+
+returns-3 : tie.Need-returns-3
+unfolding values wordIs _then_ require
+returns-3 c = rw (lt-ltb _ _ (c .before .if1 .left), c .if2 .left)
+
+pub word-is-spec : {M : Type 1} → statement M
+word-is-spec = tie.close (tie.spec returns returns-2 returns-3)
