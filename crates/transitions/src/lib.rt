@@ -43,8 +43,9 @@ fn condition_holds(
     ensures { λ r. ⌜ r ≡ conditionHolds (now (plan .entry)) (now (numbers .entry)) (now (parameters .entry)) (here .state) t ⌝ }
 {
     let condition = condition_at(plan, here, t);
+    let parameter = condition.parameter;
     let v = value(plan, numbers, here, t);
-    holds(condition.operator, parameters[condition.parameter], v)
+    holds(condition.operator, parameters[parameter], v)
 }
 
 // Transition t of the state, started at an instant.

@@ -1,0 +1,28 @@
+-- `transitions::condition_holds` meets its contract: the parameter is one of the player's 32. Assumes nothing.
+use borrow.Author.Needs.{needs}
+use Prim.Native.Nat.{_<_}
+use native.Mathlib.Omega.{arith}
+use Rattle.layout.specs.Layout.{conditionOf}
+use Rattle.transitions.proofs.Laws.{parameter-there}
+use Rattle.transitions.proofs.condition_holds.Statement.{statement}
+use Rattle.transitions.proofs.condition_holds.Tie as tie
+
+there : (c : tie.After-condition-at) → c .condition-at .result .parameter < 32
+there c = let p = c .before .before .before .pre in parameter-there _ _ (p .1) (p .0) _ (p .2) _ (c .condition-at .ensures)
+
+returns : tie.Need-returns
+unfolding conditionOf
+returns c =
+    let v = c .before .before in
+    rw (c .holds .ensures, v .value .ensures, v .before .condition-at .ensures)
+
+pub condition-holds-spec : {M : Type 1} → statement M
+condition-holds-spec =
+    tie.close
+    (tie.spec
+    (λ c κs. search needs)
+    (λ c κs. search needs)
+    (λ c. omega (arith, there (c .before)))
+    (λ c. there (c .before))
+    (λ c κs. search needs)
+    returns)
