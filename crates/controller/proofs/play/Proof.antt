@@ -6,6 +6,11 @@ use Rattle.controller.proofs.Frames.{passes, in-plan, still-below, stil
 use Rattle.controller.proofs.play.Statement.{statement}
 use Rattle.controller.proofs.play.Tie as tie
 
+state-layout-requires : tie.Need-state-layout-requires
+state-layout-requires c κs =
+    let s = c .before .before .before .before .before .before in
+    (passes (s .pre .0), s .pre .0 .found, s .pre .1)
+
 step-requires : tie.Need-step-requires
 step-requires c κs =
     let l = c .before in
@@ -17,7 +22,7 @@ unfolding nowAt
 layout-of-requires c κs =
     let l = c .before .before in
     let s = l .before .before .before .before .before .before .before in
-    (passes (s .pre .0), s .pre .0 .found, in-plan _ _ _ (l .state-layout .ensures) (s .pre .1), still-below _ _ _ _ _ _ (l .state-layout .ensures) (c .step .ensures) (s .pre .0 .passed) (s .pre .1) (s .pre .2))
+    (passes (s .pre .0), s .pre .0 .found, in-plan _ _ _ (l .state-layout .ensures) (s .pre .1), still-below _ _ (s .args .player) _ _ _ (l .state-layout .ensures) (c .step .ensures) (s .pre .0 .passed) (s .pre .1) (s .pre .2))
 
 show-requires : tie.Need-show-requires
 unfolding nowAt
@@ -26,8 +31,8 @@ show-requires c κs =
     let t = h .before in
     let l = t .before .before in
     let s = l .before .before .before .before .before .before .before in
-    let below = still-below _ _ _ _ _ _ (l .state-layout .ensures) (t .step .ensures) (s .pre .0 .passed) (s .pre .1) (s .pre .2) in
-    let target = still-target _ _ _ _ _ _ (l .state-layout .ensures) (t .step .ensures) (s .pre .0 .passed) (s .pre .1) (s .pre .2) in
+    let below = still-below _ _ (s .args .player) _ _ _ (l .state-layout .ensures) (t .step .ensures) (s .pre .0 .passed) (s .pre .1) (s .pre .2) in
+    let target = still-target _ _ (s .args .player) _ _ _ (l .state-layout .ensures) (t .step .ensures) (s .pre .0 .passed) (s .pre .1) (s .pre .2) in
     (s .pre .0, in-plan _ _ _ (h .layout-of .ensures) below, target, s .pre .3)
 
 returns : tie.Need-returns
@@ -41,4 +46,4 @@ returns c =
     (played _ _ _ _ _ _ (l .state-layout .ensures) (t .step .ensures) _ (h .layout-of .ensures) _ (n .narrow .ensures) _ _ _ (w .show .ensures), drawn _ _ _ _ _ _ (l .state-layout .ensures) (t .step .ensures) _ (h .layout-of .ensures) _ (n .narrow .ensures) _ _ _ (w .show .ensures))
 
 pub play-spec : {M : Type 1} → statement M
-play-spec = tie.close (tie.spec (search needs) step-requires layout-of-requires (search needs) show-requires (search needs) returns)
+play-spec = tie.close (tie.spec state-layout-requires step-requires layout-of-requires (search needs) show-requires (search needs) returns)
