@@ -3,7 +3,7 @@ use Prim.Native.Nat.{ℕ, suc, _+_, _*_, _≤_, _<_}
 use native.Mathlib.Omega.{arith}
 use native.Mathlib.Decide.{ℕ-discrete, decLt}
 use native.Mathlib.Numerals.{add-one}
-use mathlib.Core.Path.{_≡_, refl, sym, ap, _∙_}
+use mathlib.Core.Path.{_≡_, refl, sym, _∙_}
 use mathlib.Core.Bool.{Bool, true, false, not, _&&_, _||_, or-false, or-true, or-assoc}
 use mathlib.Core.List.{List}
 use denote.Enum.Declared.{tagOf}
@@ -12,21 +12,20 @@ use lib.ListN.{getD, length, set, length-set, replicate, getD-replicate}
 use lib.Seq.{getD-set-same, getD-set-other}
 use borrow.Author.Tests.{lt-ltb, le-ltb, eq-eqb, ne-eqb, not-true, not-false}
 use Rattle.model.specs.declared.Answer.{Answer}
-use Rattle.model.specs.declared.Answer.the-variants.{Accepted, Refused}
+use Rattle.model.specs.declared.Answer.the-variants.{Accepted}
 use Rattle.model.proofs.Answer.{the-type}
 use Rattle.model.specs.Answers.{Verdict, accepted, refused, values, _then_, each, require}
 use Rattle.model.specs.Plan.{maxClipNodes, word, clipCount, parameterCount, kindAt, kind, isClip, inputA, inputB, nodeParameter, total, clipNodesAmong, clipNode}
 use Rattle.model.specs.Check.{wordIs, used, checkNode}
 use Rattle.model.specs.Laws.Answers.{each-next, each-stops}
 use Rattle.plan.specs.Parts.{checkClip, checkBlend, Marks}
-use Rattle.plan.proofs.Laws.{stops}
+use Rattle.plan.proofs.Laws.{stops, goes}
 
-pub not-accepted : (a : Answer) → tagOf the-type a ≡ 1 → values a ≡ accepted → ⊥
-unfolding values
-not-accepted Accepted t e = omega (arith, t)
-not-accepted (Refused n p) t e = let z : _≡_ {A = ℕ} 0 1 = cc in omega arith
+pub kind-place : (plan : List ℕ) (s from i : ℕ) → from ≡ kindAt plan s 0 → from + 4 * i ≡ kindAt plan s i
+unfolding kindAt
+kind-place plan s from i e = omega arith
 
--- ---- the two ways to go on after a node's kind
+-- ---- the kind of node i of state s, which stands at `at`
 
 after-first : (k r a b p : Verdict) → k then r then a then b then p ≡ k then (r then a then b then p)
 unfolding _then_
@@ -38,11 +37,6 @@ unfolding _then_
 after-skipped accepted a b p = refl
 after-skipped (refused number place rest) a b p = refl
 
-pub kind-place : (plan : List ℕ) (s from i : ℕ) → from ≡ kindAt plan s 0 → from + 4 * i ≡ kindAt plan s i
-unfolding kindAt
-kind-place plan s from i e = omega arith
-
--- node i of state s, whose kind stands at `at`
 module _ (plan : List ℕ) (s i at : ℕ) (place : at ≡ kindAt plan s i) where
   pub clip-read : (w : ℕ) → w ≡ word plan at → w ≡ 0 → isClip plan s i ≡ true
   unfolding isClip kind
@@ -52,45 +46,78 @@ module _ (plan : List ℕ) (s i at : ℕ) (place : at ≡ kindAt plan s i) where
   unfolding isClip kind
   blend-read w is n = ne-eqb (word plan (kindAt plan s i)) 0 (rw (← place, ← is) n)
 
-  pub kind-stops : (a : Answer) → tagOf the-type a ≡ 1 → values a ≡ wordIs plan 4 at (leb (word plan at) 2) → values a ≡ checkNode plan s i
-  unfolding checkNode kind
-  kind-stops a t e = stops _ _ _ t (stops _ _ _ t (stops _ _ _ t (stops _ _ _ t (rw place at e))))
-
-  pub node-clip : isClip plan s i ≡ true → checkNode plan s i ≡ wordIs plan 4 at (leb (word plan at) 2) then checkClip plan s i
+  node-clip : isClip plan s i ≡ true → checkNode plan s i ≡ wordIs plan 4 at (leb (word plan at) 2) then checkClip plan s i
   unfolding checkNode checkClip kind
   node-clip e = rw (place, e) (after-first _ _ _ _ _)
 
-  pub node-blend : isClip plan s i ≡ false → checkNode plan s i ≡ wordIs plan 4 at (leb (word plan at) 2) then checkBlend plan s i
+  node-blend : isClip plan s i ≡ false → checkNode plan s i ≡ wordIs plan 4 at (leb (word plan at) 2) then checkBlend plan s i
   unfolding checkNode checkBlend kind require
   node-blend e = rw (place, e) (after-skipped _ _ _ _)
 
-  -- the words after the kind
-  pub clip-full : maxClipNodes ≤ clipNode plan s i → checkClip plan s i ≡ refused 2 at 0
+  module _ (k : Answer) (e : values k ≡ wordIs plan 4 at (leb (word plan at) 2)) where
+    pub kind-stops : tagOf the-type k ≡ 1 → values k ≡ checkNode plan s i
+    unfolding checkNode kind
+    kind-stops t = stops _ _ _ t (stops _ _ _ t (stops _ _ _ t (stops _ _ _ t (rw place at e))))
+
+    pub clip-goes : k ≡ Accepted → isClip plan s i ≡ true → (a : Answer) → values a ≡ checkClip plan s i → values a ≡ checkNode plan s i
+    clip-goes q clip a n = goes _ _ _ _ q e n ∙ sym (node-clip clip)
+
+    pub blend-goes : k ≡ Accepted → isClip plan s i ≡ false → (a : Answer) → values a ≡ checkBlend plan s i → values a ≡ checkNode plan s i
+    blend-goes q blend a n = goes _ _ _ _ q e n ∙ sym (node-blend blend)
+
+-- ---- the words after the kind of a clip node, the n-th of the plan
+
+module _ (plan : List ℕ) (s i at : ℕ) (place : at ≡ kindAt plan s i) (n : ℕ) (number : n ≡ clipNode plan s i) where
+  pub clip-full : maxClipNodes ≤ n → refused 2 at 0 ≡ checkClip plan s i
   unfolding checkClip require _then_
-  clip-full h = rw (place, le-ltb _ _ h)
+  clip-full h = rw (place, le-ltb (clipNode plan s i) _ (rw number at h))
 
-  pub clip-words : clipNode plan s i < maxClipNodes
-      → checkClip plan s i ≡ wordIs plan 4 (at + 1) (ltb (word plan (at + 1)) (clipCount plan)) then wordIs plan 4 (at + 2) (eqb (word plan (at + 2)) 0) then wordIs plan 4 (at + 3) (eqb (word plan (at + 3)) 0)
-  unfolding checkClip require _then_ inputA inputB nodeParameter
-  clip-words h = rw (place, lt-ltb _ _ h)
+  module _ (few : n < maxClipNodes) (clips : ℕ) (count : clips ≡ clipCount plan) where
+    clip-words : checkClip plan s i ≡ wordIs plan 4 (at + 1) (ltb (word plan (at + 1)) clips) then wordIs plan 4 (at + 2) (eqb (word plan (at + 2)) 0) then wordIs plan 4 (at + 3) (eqb (word plan (at + 3)) 0)
+    unfolding checkClip require _then_ inputA inputB nodeParameter
+    clip-words = rw (place, count, lt-ltb (clipNode plan s i) _ (rw number at few))
 
-  module _ (marks : List Bool) (few : i < 32) (so-far : Marks plan s i marks) where
-    free : (k : ℕ) → ltb k i && not (used plan s i k) ≡ ltb k i && not (getD marks k false)
-    free k = go (decLt k i)
-      where
-        go : Dec (k < i) → ltb k i && not (used plan s i k) ≡ ltb k i && not (getD marks k false)
-        go (yes h) = rw (so-far .mark k (omega arith))
-        go (no h) = rw (le-ltb k i (omega arith))
+    module _ (a : Answer) (e : values a ≡ wordIs plan 4 (at + 1) (ltb (word plan (at + 1)) clips)) where
+      pub clip-stops : tagOf the-type a ≡ 1 → values a ≡ checkClip plan s i
+      clip-stops t = stops _ _ _ t (stops _ _ _ t e) ∙ sym clip-words
 
-    pub blend-words : checkBlend plan s i ≡ wordIs plan 4 (at + 1) (ltb (word plan (at + 1)) i && not (getD marks (word plan (at + 1)) false)) then
-        wordIs plan 4 (at + 2) (ltb (word plan (at + 2)) i && not (getD marks (word plan (at + 2)) false) && not (eqb (word plan (at + 1)) (word plan (at + 2)))) then
+      module _ (q : a ≡ Accepted) (x : ℕ) (is : x ≡ word plan (at + 2)) (b : Answer) (e₂ : values b ≡ wordIs plan 4 (at + 2) (eqb x 0)) where
+        pub clip-stops-second : tagOf the-type b ≡ 1 → values b ≡ checkClip plan s i
+        clip-stops-second t = stops _ _ _ t (goes _ _ _ _ q e (rw is at e₂)) ∙ sym clip-words
+
+        pub clip-ends : b ≡ Accepted → (y : ℕ) → y ≡ word plan (at + 3) → (c : Answer) → values c ≡ wordIs plan 4 (at + 3) (eqb y 0) → values c ≡ checkClip plan s i
+        clip-ends q₂ y is₃ c e₃ = goes _ _ _ _ q₂ (goes _ _ _ _ q e (rw is at e₂)) (rw is₃ at e₃) ∙ sym clip-words
+
+-- ---- the words after the kind of any other node; its inputs are x and y
+
+module _ (plan : List ℕ) (s i at : ℕ) (place : at ≡ kindAt plan s i) (few : i < 32) (marks : List Bool) (so-far : Marks plan s i marks) where
+  free : (k : ℕ) → ltb k i && not (used plan s i k) ≡ ltb k i && not (getD marks k false)
+  free k = go (decLt k i)
+    where
+      go : Dec (k < i) → ltb k i && not (used plan s i k) ≡ ltb k i && not (getD marks k false)
+      go (yes h) = rw (so-far .mark k (omega arith))
+      go (no h) = rw (le-ltb k i (omega arith))
+
+  module _ (x y : ℕ) (first : x ≡ word plan (at + 1)) (second : y ≡ word plan (at + 2)) where
+    blend-words : checkBlend plan s i ≡ wordIs plan 4 (at + 1) (ltb x i && not (getD marks x false)) then wordIs plan 4 (at + 2) (ltb y i && not (getD marks y false) && not (eqb x y)) then
         wordIs plan 4 (at + 3) (ltb (word plan (at + 3)) (parameterCount plan))
     unfolding checkBlend inputA inputB nodeParameter
-    blend-words = rw (← place, free (word plan (at + 1)), free (word plan (at + 2)))
+    blend-words = rw (← place, ← first, ← second, free x, free y)
+
+    module _ (f : Bool) (is : f ≡ ltb x i && not (getD marks x false)) (a : Answer) (e : values a ≡ wordIs plan 4 (at + 1) f) where
+      pub blend-stops : tagOf the-type a ≡ 1 → values a ≡ checkBlend plan s i
+      blend-stops t = stops _ _ _ t (stops _ _ _ t (rw is at e)) ∙ sym blend-words
+
+      module _ (q : a ≡ Accepted) (g : Bool) (is₂ : g ≡ ltb y i && not (getD marks y false)) (b : Answer) (e₂ : values b ≡ wordIs plan 4 (at + 2) (g && not (eqb x y))) where
+        pub blend-stops-second : tagOf the-type b ≡ 1 → values b ≡ checkBlend plan s i
+        blend-stops-second t = stops _ _ _ t (goes _ _ _ _ q (rw is at e) (rw is₂ at e₂)) ∙ sym blend-words
+
+        pub blend-ends : b ≡ Accepted → (parameters : ℕ) → parameters ≡ parameterCount plan → (c : Answer) → values c ≡ wordIs plan 4 (at + 3) (ltb (word plan (at + 3)) parameters) → values c ≡ checkBlend plan s i
+        blend-ends q₂ parameters count c e₃ = goes _ _ _ _ q₂ (goes _ _ _ _ q (rw is at e) (rw is₂ at e₂)) (rw count at e₃) ∙ sym blend-words
+
+-- ---- clip nodes are numbered in a row
 
 module _ (plan : List ℕ) (s i : ℕ) where
-  -- ---- clip nodes are numbered in a row
-
   pub clip-counts : isClip plan s i ≡ true → clipNode plan s (suc i) ≡ clipNode plan s i + 1
   unfolding clipNode clipNodesAmong total
   clip-counts e = rw e (omega arith)
@@ -99,14 +126,7 @@ module _ (plan : List ℕ) (s i : ℕ) where
   unfolding clipNode clipNodesAmong total
   blend-counts e = rw e (omega arith)
 
-  -- ---- marks
-
-  pub marks-clip : (marks : List Bool) → isClip plan s i ≡ true → Marks plan s i marks → Marks plan s (suc i) marks
-  unfolding used
-  marks-clip marks e before = record { mark = λ k h. before .mark k h ∙ rw e (sym (or-false (used plan s i k))) }
-
-  pub marks-all : (marks : List Bool) (n : ℕ) → i ≤ n → n ≤ i → Marks plan s i marks → Marks plan s n marks
-  marks-all marks n h k m = let q : n ≡ i = omega arith in rw q m
+-- ---- marks
 
 pub marks-none : (plan : List ℕ) (s : ℕ) → Marks plan s 0 (replicate 32 false)
 unfolding used
@@ -119,15 +139,22 @@ set-mark marks a k h = go (ℕ-discrete a k)
     go (yes e) = rw (eq-eqb a k e, e, getD-set-same marks k true false h, or-true)
     go (no e) = rw (ne-eqb a k e, getD-set-other marks a k true false (λ q. e (sym q)), or-false)
 
-pub marks-blend : (plan : List ℕ) (s i : ℕ) (marks : List Bool) → length marks ≡ 32 → isClip plan s i ≡ false → Marks plan s i marks
-    → Marks plan s (suc i) (set (set marks (inputA plan s i) true) (inputB plan s i) true)
-unfolding used
-marks-blend plan s i marks l e before = record { mark = at }
-  where
-    at : (k : ℕ) → k < 32 → getD (set (set marks (inputA plan s i) true) (inputB plan s i) true) k false ≡ used plan s (suc i) k
-    at k h =
-        rw (set-mark (set marks (inputA plan s i) true) (inputB plan s i) k (rw (length-set marks, l) h), set-mark marks (inputA plan s i) k (rw l h), before .mark k h, e)
-        (or-assoc (used plan s i k) _ _)
+module _ (plan : List ℕ) (s i : ℕ) (marks : List Bool) (so-far : Marks plan s i marks) where
+  pub marks-all : (n : ℕ) → i ≤ n → n ≤ i → Marks plan s n marks
+  marks-all n h k = let q : n ≡ i = omega arith in rw q so-far
+
+  pub marks-clip : isClip plan s i ≡ true → Marks plan s (suc i) marks
+  unfolding used
+  marks-clip e = record { mark = λ k h. so-far .mark k h ∙ rw e (sym (or-false (used plan s i k))) }
+
+  pub marks-blend : length marks ≡ 32 → isClip plan s i ≡ false → Marks plan s (suc i) (set (set marks (inputA plan s i) true) (inputB plan s i) true)
+  unfolding used
+  marks-blend l e = record { mark = at }
+    where
+      at : (k : ℕ) → k < 32 → getD (set (set marks (inputA plan s i) true) (inputB plan s i) true) k false ≡ used plan s (suc i) k
+      at k h =
+          rw (set-mark (set marks (inputA plan s i) true) (inputB plan s i) k (rw (length-set marks, l) h), set-mark marks (inputA plan s i) k (rw l h), so-far .mark k h, e)
+          (or-assoc (used plan s i k) _ _)
 
 -- ---- the search for a node that is no input
 

@@ -60,6 +60,9 @@ pub record Counted (plan : List ℕ) (s at k : ℕ) : Type 0 where
   pub count : k ≡ word plan at
   pub passes : wordIs plan 2 at (within 1 (word plan at) 31) ≡ accepted
 
+pub is-counted : (plan : List ℕ) (s at k : ℕ) → at ≡ stateAt plan s → k ≡ word plan at → (a : Answer) → a ≡ Accepted → values a ≡ wordIs plan 2 at (within 1 (word plan at) 31) → Counted plan s at k
+is-counted plan s at k place count a q e = record { place = place; count = count; passes = passed _ _ q e }
+
 module _ {plan : List ℕ} {s at k : ℕ} (so-far : Counted plan s at k) where
   pub nodes-between : (1 ≤ k) × (k ≤ 31)
   nodes-between = let ok = word-true _ _ _ _ (so-far .passes) in rw (so-far .count) (within-low _ _ _ ok, within-high _ _ _ ok)
@@ -76,31 +79,34 @@ pub record Tree (plan : List ℕ) (s at k : ℕ) : Type 0 where
   pub counted : Counted plan s at k
   pub passes : wordIs plan 2 at (within 1 (word plan at) 31) then each k (checkNode plan s) then each (k - 1) (λ j. require (used plan s k j) 4 at) ≡ accepted
 
-module _ {plan : List ℕ} {s at k : ℕ} (so-far : Counted plan s at k) (nodes : each k (checkNode plan s) ≡ accepted) (marks : List Bool) (marked : Marks plan s k marks) (a : Answer) (e : values a ≡ each (k - 1) (λ j. require (getD marks j false) 4 at)) where
+module _ {plan : List ℕ} {s at k : ℕ} (so-far : Counted plan s at k) (b : Answer) (q : b ≡ Accepted) (nodes : values b ≡ each k (checkNode plan s)) (marks : List Bool) (marked : values b ≡ accepted → Marks plan s k marks) (a : Answer) (e : values a ≡ each (k - 1) (λ j. require (getD marks j false) 4 at)) where
   three : values a ≡ wordIs plan 2 at (within 1 (word plan at) 31) then each k (checkNode plan s) then each (k - 1) (λ j. require (used plan s k j) 4 at)
-  three = e ∙ each-same _ _ (k - 1) (λ j h. rw (marked .mark j (omega (arith, nodes-between so-far .1)))) ∙ sym (then-accepted _ _ (then-accepted _ _ (so-far .passes) ∙ nodes))
+  three =
+      let mark = marked (passed b _ q refl) in
+      e ∙ each-same _ _ (k - 1) (λ j h. rw (mark .mark j (omega (arith, nodes-between so-far .1)))) ∙ sym (then-accepted _ _ (then-accepted _ _ (so-far .passes) ∙ passed _ _ q nodes))
 
   pub inputs-stop : tagOf the-type a ≡ 1 → values a ≡ checkState plan s
   inputs-stop t = stops _ _ _ t (stops _ _ _ t three) ∙ sym (parts plan s at k (so-far .place) (so-far .count))
 
   pub is-tree : a ≡ Accepted → Tree plan s at k
-  is-tree q = record { counted = so-far; passes = passed _ _ q three }
+  is-tree accepts = record { counted = so-far; passes = passed _ _ accepts three }
 
 module _ {plan : List ℕ} {s at k : ℕ} (so-far : Tree plan s at k) where
-  pub transition-count-stops : (a : Answer) → values a ≡ wordIs plan 2 (at + 1 + 4 * k) (leb (word plan (at + 1 + 4 * k)) 16) → tagOf the-type a ≡ 1 → values a ≡ checkState plan s
-  transition-count-stops a e t = stops _ _ _ t (e ∙ sym (then-accepted _ _ (so-far .passes))) ∙ sym (parts plan s at k (so-far .counted .place) (so-far .counted .count))
-
   pub first-transition-place : at + 1 + 4 * k + 1 ≡ conditionParameterAt plan s 0
   unfolding conditionParameterAt transitionCountAt afterNodes
   first-transition-place = rw (so-far .counted .count, so-far .counted .place) (omega arith)
 
-  module _ (n : ℕ) (count : n ≡ word plan (at + 1 + 4 * k)) (passes : wordIs plan 2 (at + 1 + 4 * k) (leb (word plan (at + 1 + 4 * k)) 16) ≡ accepted) where
-    pub transitions-few : n ≤ 16
-    transitions-few = rw count (leb-true _ _ (word-true _ _ _ _ passes))
+  module _ (a : Answer) (e : values a ≡ wordIs plan 2 (at + 1 + 4 * k) (leb (word plan (at + 1 + 4 * k)) 16)) where
+    pub transition-count-stops : tagOf the-type a ≡ 1 → values a ≡ checkState plan s
+    transition-count-stops t = stops _ _ _ t (e ∙ sym (then-accepted _ _ (so-far .passes))) ∙ sym (parts plan s at k (so-far .counted .place) (so-far .counted .count))
 
-    pub transitions-end : (a : Answer) → values a ≡ each n (checkTransition plan s) → values a ≡ checkState plan s
-    transitions-end a e =
-        (rw count at e) ∙ sym (then-accepted _ _ (then-accepted _ _ (so-far .passes) ∙ passes)) ∙ sym (parts plan s at k (so-far .counted .place) (so-far .counted .count))
+    module _ (q : a ≡ Accepted) (n : ℕ) (count : n ≡ word plan (at + 1 + 4 * k)) where
+      pub transitions-few : n ≤ 16
+      transitions-few = rw count (leb-true _ _ (word-true _ _ _ _ (passed _ _ q e)))
+
+      pub transitions-end : (b : Answer) → values b ≡ each n (checkTransition plan s) → values b ≡ checkState plan s
+      transitions-end b n =
+          (rw count at n) ∙ sym (then-accepted _ _ (then-accepted _ _ (so-far .passes) ∙ passed _ _ q e)) ∙ sym (parts plan s at k (so-far .counted .place) (so-far .counted .count))
 
 -- ---- from state s, which passed and has k nodes and t transitions, to the next
 

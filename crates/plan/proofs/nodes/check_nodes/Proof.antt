@@ -3,13 +3,13 @@ use borrow.Author.Needs.{needs}
 use Prim.Native.Nat.{_+_, _-_, _≤_}
 use native.Mathlib.Numerals.{add-one}
 use native.Mathlib.Omega.{arith}
-use mathlib.Core.Path.{_≡_, refl, _∙_}
+use mathlib.Core.Path.{_≡_, refl}
 use Rattle.model.specs.Answers.{accepted, values, each}
 use Rattle.model.specs.Plan.{clipNode}
 use Rattle.model.specs.Check.{checkNode}
 use Rattle.plan.specs.Parts.{Marks}
-use Rattle.plan.proofs.Laws.{passed, each-goes, each-refuses, each-ends}
-use Rattle.plan.proofs.NodeLaws.{kind-place, marks-none, marks-all, not-accepted}
+use Rattle.plan.proofs.Laws.{never, passed, each-goes, each-refuses, each-ends}
+use Rattle.plan.proofs.NodeLaws.{kind-place, marks-none, marks-all}
 use Rattle.plan.proofs.nodes.check_nodes.Statement.{statement}
 use Rattle.plan.proofs.nodes.check_nodes.Tie as tie
 
@@ -35,7 +35,7 @@ returns c =
     let n = c .before .before in
     let i = n .before .before in
     let t = c .before .match .keys2 in
-    record { answer = each-refuses _ _ _ (i .before .loop .inv .0) (n .check-node .ensures) _ (i .loop-test .taken) t; marks = λ e. absurd (not-accepted _ t e) }
+    record { answer = each-refuses _ _ _ (i .before .loop .inv .0) (n .check-node .ensures) _ (i .loop-test .taken) t; marks = λ e. absurd (never _ t e) }
 
 marked-requires : tie.Need-marked-requires Inv-loop μ-loop
 marked-requires c κs =
@@ -59,7 +59,7 @@ returns-2 : tie.Need-returns-2 Inv-loop μ-loop
 unfolding values
 returns-2 c =
     let l = c .before .loop .inv in
-    record { answer = each-ends _ _ _ (l .0) (l .4) (c .loop-test .left); marks = λ e. marks-all _ _ _ _ _ (l .4) (c .loop-test .left) (l .1) }
+    record { answer = each-ends _ _ _ (l .0) (l .4) (c .loop-test .left); marks = λ e. marks-all _ _ _ _ (l .1) _ (l .4) (c .loop-test .left) }
 
 pub check-nodes-spec : {M : Type 1} → statement M
 check-nodes-spec =

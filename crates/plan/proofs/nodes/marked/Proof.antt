@@ -1,7 +1,7 @@
 -- `plan::nodes::marked` meets its contract: a clip node has no inputs, and any other has two, which are earlier nodes. Assumes nothing.
 use borrow.Author.Needs.{needs}
 use mathlib.Core.Path.{_≡_}
-use mathlib.Core.Bool.{true, false}
+use mathlib.Core.Bool.{false}
 use native.Mathlib.Omega.{arith}
 use lib.ListN.{length}
 use Rattle.model.specs.Plan.{isClip, inputA, inputB}
@@ -13,7 +13,7 @@ use Rattle.plan.proofs.nodes.marked.Tie as tie
 returns : tie.Need-returns
 returns c =
     let start = c .before .before .before in
-    marks-clip _ _ _ _ (clip-read _ _ _ _ (start .pre .1) _ (c .before .word .ensures .0) (c .if1 .taken)) (start .pre .4)
+    marks-clip _ _ _ _ (start .pre .4) (clip-read _ _ _ _ (start .pre .1) _ (c .before .word .ensures .0) (c .if1 .taken))
 
 blend : (c : tie.Else1) → let a = c .before .before .before .args in isClip (a .plan .now) (a .state) (a .i) ≡ false
 blend c = blend-read _ _ _ _ (c .before .before .before .pre .1) _ (c .before .word .ensures .0) (c .if1 .left)
@@ -39,7 +39,7 @@ unfolding inputA inputB
 returns-2 c =
     let start = c .before .before .before .before .before in
     let l : length (start .args .used) ≡ 32 = search needs in
-    rw (c .before .word2 .ensures .0, c .word3 .ensures .0, start .pre .1) (marks-blend _ _ _ _ l (blend (c .before .before)) (start .pre .4))
+    rw (c .before .word2 .ensures .0, c .word3 .ensures .0, start .pre .1) (marks-blend _ _ _ _ (start .pre .4) l (blend (c .before .before)))
 
 pub marked-spec : {M : Type 1} → statement M
 marked-spec =

@@ -1,9 +1,7 @@
 -- `plan::states::check_state` meets its contract: K, the nodes, that they are inputs, T and the transitions, in the definition's order. Assumes nothing.
 use borrow.Author.Needs.{needs}
 use native.Mathlib.Omega.{arith}
-use mathlib.Core.Path.{refl}
-use Rattle.plan.proofs.Laws.{passed}
-use Rattle.plan.proofs.StateLaws.{count-stops, clip-node-first, Counted, nodes-between, first-node-place, nodes-stop, Tree, inputs-stop, is-tree, transition-count-stops, first-transition-place, transitions-few, transitions-end}
+use Rattle.plan.proofs.StateLaws.{count-stops, clip-node-first, Counted, is-counted, nodes-between, first-node-place, nodes-stop, Tree, inputs-stop, is-tree, transition-count-stops, first-transition-place, transitions-few, transitions-end}
 use Rattle.plan.proofs.states.check_state.Statement.{statement}
 use Rattle.plan.proofs.states.check_state.Tie as tie
 
@@ -15,7 +13,7 @@ returns c =
 counted : (c : tie.After-word) → let a = c .before .before .before .before .before .args in Counted (a .plan .now) (a .state) (a .at) (c .word .result)
 counted c =
     let k = c .before .before .before in
-    record { place = k .before .before .pre .1; count = c .word .ensures .0; passes = passed _ _ (c .before .enum-told .given .1) (k .word-within .ensures) }
+    is-counted _ _ _ _ (k .before .before .pre .1) (c .word .ensures .0) _ (c .before .enum-told .given .1) (k .word-within .ensures)
 
 check-nodes-requires : tie.Need-check-nodes-requires
 check-nodes-requires c κs =
@@ -36,20 +34,18 @@ check-used-requires c κs = omega (arith, nodes-between (counted (c .before .bef
 returns-3 : tie.Need-returns-3
 returns-3 c =
     let u = c .before .before in
-    let t = u .before .before in
-    let n = t .before .before in
+    let told = u .before .before in
+    let n = told .before .before in
     let nodes = n .check-nodes .ensures in
-    let told = t .enum-told3 .given .1 in
-    inputs-stop (counted (n .before)) (passed _ _ told (nodes .answer)) _ (nodes .marks (passed _ _ told refl)) _ (u .check-used .ensures) (c .before .match3 .keys2)
+    inputs-stop (counted (n .before)) _ (told .enum-told3 .given .1) (nodes .answer) _ (nodes .marks) _ (u .check-used .ensures) (c .before .match3 .keys2)
 
 tree : (c : tie.After-enum-told5) → let w = c .before .before .before .before .before .before .before in let a = w .before .before .before .before .before .args in Tree (a .plan .now) (a .state) (a .at) (w .word .result)
 tree c =
     let u = c .before .before in
-    let t = u .before .before in
-    let n = t .before .before in
+    let told = u .before .before in
+    let n = told .before .before in
     let nodes = n .check-nodes .ensures in
-    let told = t .enum-told3 .given .1 in
-    is-tree (counted (n .before)) (passed _ _ told (nodes .answer)) _ (nodes .marks (passed _ _ told refl)) _ (u .check-used .ensures) (c .enum-told5 .given .1)
+    is-tree (counted (n .before)) _ (told .enum-told3 .given .1) (nodes .answer) _ (nodes .marks) _ (u .check-used .ensures) (c .enum-told5 .given .1)
 
 returns-4 : tie.Need-returns-4
 returns-4 c =
@@ -62,13 +58,13 @@ check-transitions-requires c κs =
     let so-far = tree (p .before) in
     let w = p .before .before .before .before .before .before .before .before in
     let pre = w .before .before .before .before .before .pre in
-    (omega (arith, pre .0, nodes-between (counted w)), first-transition-place so-far, transitions-few so-far _ (c .word2 .ensures .0) (passed _ _ (c .before .enum-told7 .given .1) (p .word-up-to .ensures)), pre .3, pre .4)
+    (omega (arith, pre .0, nodes-between (counted w)), first-transition-place so-far, transitions-few so-far _ (p .word-up-to .ensures) (c .before .enum-told7 .given .1) _ (c .word2 .ensures .0), pre .3, pre .4)
 
 returns-5 : tie.Need-returns-5
 returns-5 c =
     let w = c .before in
     let p = w .before .before .before in
-    transitions-end (tree (p .before)) _ (w .word2 .ensures .0) (passed _ _ (w .before .enum-told7 .given .1) (p .word-up-to .ensures)) _ (c .check-transitions .ensures)
+    transitions-end (tree (p .before)) _ (p .word-up-to .ensures) (w .before .enum-told7 .given .1) _ (w .word2 .ensures .0) _ (c .check-transitions .ensures)
 
 pub check-state-spec : {M : Type 1} → statement M
 check-state-spec =

@@ -6,8 +6,7 @@ use mathlib.Core.Path.{_≡_, refl}
 use Rattle.model.specs.Answers.{accepted, values, each}
 use Rattle.model.specs.Plan.{stateAt, total, clipNodesBefore, transitionsBefore}
 use Rattle.model.specs.Check.{checkState}
-use Rattle.plan.proofs.Laws.{passed, each-goes, each-refuses, each-ends}
-use Rattle.plan.proofs.NodeLaws.{not-accepted}
+use Rattle.plan.proofs.Laws.{never, passed, each-goes, each-refuses, each-ends}
 use Rattle.plan.proofs.StateLaws.{few, next-place, next-clip-nodes, next-transitions, ends}
 use Rattle.plan.proofs.states.check_states.Statement.{statement}
 use Rattle.plan.proofs.states.check_states.Tie as tie
@@ -34,7 +33,7 @@ returns c =
     let p = c .before .before in
     let i = p .before in
     let t = c .before .match .keys2 in
-    record { answer = each-refuses _ _ _ (i .before .loop .inv .0) (p .check-state .ensures) _ (i .loop-test .taken) t; end = λ e. absurd (not-accepted _ t e); transitions = λ e. absurd (not-accepted _ t e) }
+    record { answer = each-refuses _ _ _ (i .before .loop .inv .0) (p .check-state .ensures) _ (i .loop-test .taken) t; end = λ e. absurd (never _ t e); transitions = λ e. absurd (never _ t e) }
 
 loop-again : tie.Need-loop-again Inv-loop μ-loop
 loop-again c =
