@@ -1,0 +1,33 @@
+-- `tour::print::joint` is safe and ends: sixteen turns. Assumes nothing.
+use borrow.Author.Needs.{needs}
+use Prim.Native.Nat.{_-_, _≤_}
+use native.Mathlib.Omega.{arith}
+use Rattle.tour.proofs.print.joint.Statement.{statement}
+use Rattle.tour.proofs.print.joint.Tie as tie
+
+abbrev Inv-loop : tie.InvT-loop
+Inv-loop j output i₀ t5 i = i ≤ 16
+
+abbrev μ-loop : tie.MeasureT-loop
+μ-loop j output i₀ t5 i = 16 - i
+
+pub joint-spec : {M : Type 1} → statement M
+joint-spec =
+    tie.close
+    (tie.spec
+    Inv-loop
+    μ-loop
+    (search needs)
+    (search needs)
+    (search needs)
+    (omega arith)
+    (omega arith)
+    (omega arith)
+    (search needs)
+    (search needs)
+    (omega arith)
+    (omega arith)
+    (omega arith)
+    (search needs)
+    (search needs)
+    (search needs))

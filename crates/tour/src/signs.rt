@@ -1,0 +1,202 @@
+// Two signs of an arm of two joints, with a transition each way; a page frame; and NaN.
+use crate::print;
+use controller::frame;
+use controller::page_frame;
+use controller::set;
+use controller::speed;
+use controller::start;
+use controller::update;
+use model::Player;
+
+// A frame of two joints, and the player that it returns.
+fn show(plan: &[u16], numbers: &[f32], player: Player, ext: f64) -> Player {
+    let mut output = [0.0f32; 32];
+    let shown = frame(plan, numbers, player, ext, &mut output);
+    let answer = shown.answer;
+    print::answer(b"frame", answer);
+    let after = shown.player;
+    print::player(after);
+    print::joint(0, &output);
+    print::joint(1, &output);
+    after
+}
+
+// The first state lerps a clip of two samples with one of a single sample by parameter 0. It leaves for the second state where that is above 0.5, within two
+// seconds. The second plays the single sample, and goes back where the parameter is at least 0.5, in no time.
+pub fn there_and_back() {
+    let plan: [u16; 35] = [
+        2,
+        2,
+        1,
+        2,
+        0,
+        255,
+        0,
+        2,
+        1,
+        3,
+        0,
+        0,
+        0,
+        0,
+        0,
+        1,
+        0,
+        0,
+        1,
+        0,
+        1,
+        0,
+        1,
+        0,
+        2,
+        1,
+        1,
+        0,
+        1,
+        0,
+        0,
+        1,
+        0,
+        3,
+        0,
+    ];
+    let numbers: [f32; 54] = [
+        2.0,
+        1.0,
+        0.5,
+        2.0,
+        0.5,
+        0.0,
+        0.0,
+        0.0,
+        0.0,
+        1.0,
+        1.0,
+        0.0,
+        0.0,
+        0.0,
+        1.0,
+        0.0,
+        0.0,
+        1.0,
+        1.0,
+        0.0,
+        0.0,
+        0.0,
+        0.0,
+        2.0,
+        0.0,
+        1.0,
+        0.5,
+        0.5,
+        0.5,
+        0.5,
+        1.0,
+        0.0,
+        0.0,
+        1.0,
+        1.0,
+        0.0,
+        0.0,
+        0.0,
+        4.0,
+        0.0,
+        0.0,
+        1.0,
+        0.0,
+        1.0,
+        0.0,
+        0.0,
+        0.0,
+        0.0,
+        1.0,
+        1.0,
+        1.0,
+        0.0,
+        0.0,
+        0.0,
+    ];
+    let begun = start(&plan, &numbers);
+    let fresh = begun.player;
+    let idle = show(&plan, &numbers, update(fresh, 0.25), 0.0);
+    let told = set(idle, 0, 0.75);
+    let answer = told.answer;
+    print::answer(b"set", answer);
+    let told_player = told.player;
+    let leaving = show(&plan, &numbers, told_player, 0.0);
+    let half_way = show(&plan, &numbers, update(leaving, 1.0), 0.0);
+    let arrived = show(&plan, &numbers, update(half_way, 1.0), 0.0);
+    let turning = show(&plan, &numbers, arrived, 0.125);
+    let back = show(&plan, &numbers, turning, 0.125);
+    let again = show(&plan, &numbers, speed(back, 2.0), 0.0);
+    show(&plan, &numbers, update(again, 1.0), 0.5);
+}
+
+// One joint, turned by the rotation ½ ½ ½ ½.
+pub fn page() {
+    let plan: [u16; 13] = [1, 1, 0, 1, 0, 255, 1, 1, 0, 0, 0, 0, 0];
+    let numbers: [f32; 9] = [1.0, 1.0, 2.0, 3.0, 1.0, 0.5, 0.5, 0.5, 0.5];
+    let mut output = [0.0f32; 16];
+    let begun = start(&plan, &numbers);
+    let player = begun.player;
+    let shown = frame(&plan, &numbers, player, 0.0, &mut output);
+    print::joint(0, &output);
+    let paged = page_frame(&plan, &numbers, player, 0.0, &mut output);
+    let answer = paged.answer;
+    print::answer(b"page", answer);
+    print::joint(0, &output);
+    // A refused one writes nothing.
+    let refused = page_frame(&plan[..12], &numbers, player, 0.0, &mut output);
+    let refusal = refused.answer;
+    print::answer(b"page", refusal);
+    print::joint(0, &output);
+}
+
+// A lerp of two clips, with every number, time and parameter NaN. Its transition is never begun, since no comparison holds of NaN but !=.
+pub fn nothing_but_nan() {
+    let plan: [u16; 25] = [
+        1,
+        2,
+        1,
+        1,
+        0,
+        255,
+        1,
+        1,
+        3,
+        0,
+        0,
+        0,
+        0,
+        0,
+        1,
+        0,
+        0,
+        1,
+        0,
+        1,
+        0,
+        1,
+        0,
+        3,
+        0,
+    ];
+    let nan: f32 = 0.0 / 0.0;
+    let numbers = [nan; 20];
+    let mut output = [0.0f32; 16];
+    let wide: f64 = 0.0 / 0.0;
+    let begun = start(&plan, &numbers);
+    let begun_answer = begun.answer;
+    print::answer(b"start", begun_answer);
+    let fresh = begun.player;
+    let told = set(fresh, 0, nan);
+    let told_player = told.player;
+    let moved = update(speed(told_player, wide), wide);
+    let shown = frame(&plan, &numbers, moved, wide, &mut output);
+    let answer = shown.answer;
+    print::answer(b"frame", answer);
+    let after = shown.player;
+    print::player(after);
+    print::joint(0, &output);
+}
