@@ -17,7 +17,7 @@ ghost use Rattle.layout.specs.Layout.{Passes, InPlan};
 ghost use Rattle.blend_tree.specs.Blocks.{Playable, Slots};
 
 // Which instance each clip node of a state has. A slot of another node is not read.
-pub fn clip_slots(plan: &[u16], here: StateLayout) -> [usize; 32]
+fn clip_slots(plan: &[u16], here: StateLayout) -> [usize; 32]
     requires { ⌜ Passes (now plan) × InPlan (now plan) here ⌝ }
     ensures { λ r. ⌜ Slots (now (plan .entry)) (here .state) r ⌝ }
 {
@@ -155,7 +155,7 @@ fn synchronize_node(
 }
 
 // All nodes of a state, in order.
-pub fn synchronize(
+fn synchronize(
     plan: &[u16],
     numbers: &[f32],
     layout: Layout,
@@ -183,4 +183,31 @@ pub fn synchronize(
         );
         i += 1;
     }
+}
+
+// A state with its slots, which its poses need too.
+pub fn synchronize_state(
+    plan: &[u16],
+    numbers: &[f32],
+    layout: Layout,
+    here: StateLayout,
+    parameters: &[f32; 32],
+    time: f32,
+    instances: &mut [f32; 192],
+) -> [usize; 32]
+    requires { ⌜ Playable (now plan) (now numbers) layout × InPlan (now plan) here ⌝ }
+    ensures { λ r. ⌜ Slots (now (plan .entry)) (here .state) r × (now (instances .exit) ≡ synchronize (now (plan .entry)) (now (numbers .entry)) (now (parameters .entry)) time (here .state) (now (instances .entry))) ⌝ }
+{
+    let slots = clip_slots(plan, here);
+    synchronize(
+        plan,
+        numbers,
+        layout,
+        here,
+        parameters,
+        &slots,
+        time,
+        instances,
+    );
+    slots
 }

@@ -1,6 +1,5 @@
 // Ports controller.rs: the calls on a player. Each takes the player by value and returns it with its answer; none asks anything of its caller.
-use blend_tree::synchronize::clip_slots;
-use blend_tree::synchronize::synchronize;
+use blend_tree::synchronize::synchronize_state;
 use float::narrow;
 use layout::JOINT_COUNT_AT;
 use layout::Layout;
@@ -88,17 +87,7 @@ fn synchronize_states(
     let mut s = 0;
     while s < layout.states {
         let here = state_layout(plan, layout, s);
-        let slots = clip_slots(plan, here);
-        synchronize(
-            plan,
-            numbers,
-            layout,
-            here,
-            parameters,
-            &slots,
-            0.0,
-            instances,
-        );
+        synchronize_state(plan, numbers, layout, here, parameters, 0.0, instances);
         s += 1;
     }
 }

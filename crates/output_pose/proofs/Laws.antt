@@ -24,7 +24,7 @@ use Rattle.layout.specs.Layout.{Passes, InPlan, layoutOf, stateLayout}
 use Rattle.lanes.specs.Lanes.{blockSize, laneAt}
 use Rattle.blend_tree.specs.Blocks.{Filled, Playable, InBlock}
 use Rattle.skeleton.specs.Buffer.{jointsWritten}
-use Rattle.output_pose.specs.Shown.{skeletonOf, Shown}
+use Rattle.output_pose.specs.Shown.{skeletonOf, Blended, Shown}
 
 -- ---- blocks
 
@@ -72,11 +72,19 @@ pub same-state : (plan : List ℕ) (s : ℕ) (there : StateLayout) → there ≡
 unfolding stateLayout
 same-state plan s there e = ap (λ (l : StateLayout). l .state) e
 
-pub target-in-plan : (plan : List ℕ) (t : Transition) (start duration : Float) (target : ℕ) (there : StateLayout) → t ≡ Running start target duration
-    → isTargetBelow (stateCount plan) t ≡ true → there ≡ stateLayout plan target → InPlan plan there
-target-in-plan plan t start duration target there e h k =
-    let same = same-state plan target there k in
-    record { below = omega (arith, same, target-below (stateCount plan) t start duration target e h); place = k ∙ ap (stateLayout plan) (sym same) }
+pub in-plan : (plan : List ℕ) (s : ℕ) (there : StateLayout) → s < stateCount plan → there ≡ stateLayout plan s → InPlan plan there
+in-plan plan s there h k =
+    let same = same-state plan s there k in
+    record { below = omega (arith, same); place = k ∙ ap (stateLayout plan) (sym same) }
+
+-- a state on its way to another, from the layout of the other
+pub blended-to : (plan : List ℕ) (numbers : List Float) (time factor : Float) (state target : ℕ) (parameters before after old new : List Float) (there : StateLayout) → there ≡ stateLayout plan target
+    → after ≡ synchronize plan numbers parameters time (there .state) before
+    → new ≡ skeletonOf plan (λ j. lerp (statePose plan numbers parameters time state before j) (statePose plan numbers parameters time (there .state) after j) factor) old
+    → Blended plan numbers time factor state target parameters before after old new
+blended-to plan numbers time factor state target parameters before after old new there s h k =
+    let same = same-state plan target there s in
+    record { instances = rw (← same) h; output = rw (← same) k }
 
 module _ (plan : List ℕ) (numbers : List Float) (time instant : Float) (state : ℕ) (parameters before old : List Float) where
   pub shown-idle : (t : Transition) (after new : List Float) → t ≡ Idle → after ≡ synchronize plan numbers parameters time state before
@@ -86,13 +94,11 @@ module _ (plan : List ℕ) (numbers : List Float) (time instant : Float) (state 
   shown-idle t after new e h k =
       record { instances = λ p a b c. rw (e, a, b, c, h); output = λ p a b c. rw (e, a, b, c, ← h) k }
 
-  pub shown-running : (t : Transition) (start duration factor : Float) (target : ℕ) (there : StateLayout) (current after new : List Float)
-      → t ≡ Running start target duration → there ≡ stateLayout plan target → factor ≡ transitionFactor instant start duration
+  pub shown-running : (t : Transition) (start duration factor : Float) (target : ℕ) (current after new : List Float)
+      → t ≡ Running start target duration → factor ≡ transitionFactor instant start duration
       → current ≡ synchronize plan numbers parameters time state before
-      → after ≡ synchronize plan numbers parameters time (there .state) current
-      → new ≡ skeletonOf plan (λ j. lerp (statePose plan numbers parameters time state current j) (statePose plan numbers parameters time (there .state) after j) factor) old
+      → Blended plan numbers time factor state target parameters current after old new
       → Shown plan numbers time instant state t parameters before after old new
   unfolding currentInstances targetInstances instancesIn currentPose targetPose poseIn
-  shown-running t start duration factor target there current after new e s f g h k =
-      let same = same-state plan target there s in
-      record { instances = λ p a b c. rw (e, a, b, c, ← g, ← same) h; output = λ p a b c. rw (e, a, b, c, ← g, ← same, ← h, ← f) k }
+  shown-running t start duration factor target current after new e f g b =
+      record { instances = λ p x y z. rw (e, x, y, z, ← g) (b .instances); output = λ p x y z. rw (e, x, y, z, ← g, ← b .instances, ← f) (b .output) }

@@ -1,8 +1,7 @@
 // Steps 2 and 3 of a frame: the state's clips are synchronised, its poses evaluated block by block, and the matrices written.
 use blend_tree::poses::lerp_all;
 use blend_tree::poses::state_poses;
-use blend_tree::synchronize::clip_slots;
-use blend_tree::synchronize::synchronize;
+use blend_tree::synchronize::synchronize_state;
 use float::narrow;
 use float::widen;
 use layout::Layout;
@@ -16,12 +15,12 @@ ghost use Prim.Native.Nat.{_+_, _<_, _≤_};
 ghost use lib.ListN.{length};
 ghost use Rattle.model.specs.Pose.{lerp as lerpPose};
 ghost use Rattle.model.specs.Plan.{jointCount, stateCount, outputAt};
-ghost use Rattle.model.specs.Tree.{statePose, synchronize};
+ghost use Rattle.model.specs.Tree.{statePose};
 ghost use Rattle.model.specs.Controller.{isTargetBelow, transitionFactor};
 ghost use Rattle.layout.specs.Layout.{InPlan};
 ghost use Rattle.lanes.specs.Lanes.{blockSize};
 ghost use Rattle.blend_tree.specs.Blocks.{Playable, InBlock, Slots};
-ghost use Rattle.output_pose.specs.Shown.{skeletonOf, Shown};
+ghost use Rattle.output_pose.specs.Shown.{skeletonOf, Blended, Shown};
 
 // How many of the joints from `first` on make up the next block.
 fn block_length(joints: usize, first: usize) -> usize
@@ -133,7 +132,44 @@ fn transition_factor(instant: f64, start: f64, duration: f32) -> f32
     narrow((instant - start) / widen(duration))
 }
 
-// The state `here` and its transition, if one is under way. The current state's poses come from before the target is synchronised.
+// A state on its way to another. Its own poses come from before the other is synchronised.
+fn show_transition(
+    plan: &[u16],
+    numbers: &[f32],
+    layout: Layout,
+    here: StateLayout,
+    target: usize,
+    parameters: &[f32; 32],
+    slots: &[usize; 32],
+    instances: &mut [f32; 192],
+    time: f32,
+    factor: f32,
+    output: &mut [f32],
+)
+    requires { ⌜ Playable (now plan) (now numbers) layout × InPlan (now plan) here × Slots (now plan) (here .state) (now slots) × (target < stateCount (now plan)) × (outputAt (jointCount (now plan)) ≤ length (now output)) ⌝ }
+    ensures { λ _. ⌜ Blended (now (plan .entry)) (now (numbers .entry)) time factor (here .state) target (now (parameters .entry)) (now (instances .entry)) (now (instances .exit)) (now (output .entry)) (now (output .exit)) ⌝ }
+{
+    let current = *instances;
+    let there = state_layout(plan, layout, target);
+    let there_slots = synchronize_state(plan, numbers, layout, there, parameters, time, instances);
+    show_blend(
+        plan,
+        numbers,
+        layout,
+        here,
+        there,
+        parameters,
+        slots,
+        &there_slots,
+        &current,
+        instances,
+        time,
+        factor,
+        output,
+    );
+}
+
+// The state `here` and its transition, if one is under way.
 pub fn show(
     plan: &[u16],
     numbers: &[f32],
@@ -149,17 +185,7 @@ pub fn show(
     requires { ⌜ Playable (now plan) (now numbers) layout × InPlan (now plan) here × (isTargetBelow (stateCount (now plan)) transition ≡ true) × (outputAt (jointCount (now plan)) ≤ length (now output)) ⌝ }
     ensures { λ _. ⌜ Shown (now (plan .entry)) (now (numbers .entry)) time instant (here .state) transition (now (parameters .entry)) (now (instances .entry)) (now (instances .exit)) (now (output .entry)) (now (output .exit)) ⌝ }
 {
-    let slots = clip_slots(plan, here);
-    synchronize(
-        plan,
-        numbers,
-        layout,
-        here,
-        parameters,
-        &slots,
-        time,
-        instances,
-    );
+    let slots = synchronize_state(plan, numbers, layout, here, parameters, time, instances);
     let Transition::Running {
         start,
         target,
@@ -179,30 +205,15 @@ pub fn show(
         );
         return;
     };
-    let current = *instances;
-    let there = state_layout(plan, layout, target);
-    let there_slots = clip_slots(plan, there);
-    synchronize(
-        plan,
-        numbers,
-        layout,
-        there,
-        parameters,
-        &there_slots,
-        time,
-        instances,
-    );
     let factor = transition_factor(instant, start, duration);
-    show_blend(
+    show_transition(
         plan,
         numbers,
         layout,
         here,
-        there,
+        target,
         parameters,
         &slots,
-        &there_slots,
-        &current,
         instances,
         time,
         factor,

@@ -22,27 +22,20 @@ loop-holds c = (omega arith, refl)
 state-layout-requires : tie.Need-state-layout-requires Inv-loop μ-loop
 state-layout-requires c κs = (passes (c .before .before .before .before .before .pre .0), c .before .before .before .before .before .pre .0 .found, rw (← states-are (c .before .before .before .before .before .pre .0)) (c .if1 .taken))
 
-clip-slots-requires : tie.Need-clip-slots-requires Inv-loop μ-loop
-clip-slots-requires c κs =
-    let i = c .before in
-    let ok = i .before .before .before .before .before .pre .0 in
-    (passes ok, in-plan _ _ _ (c .state-layout .ensures) (rw (← states-are ok) (i .if1 .taken)))
-
-synchronize-requires : tie.Need-synchronize-requires Inv-loop μ-loop
-synchronize-requires c κs =
-    let k = c .before .before in
-    let l = k .before in
+synchronize-state-requires : tie.Need-synchronize-state-requires Inv-loop μ-loop
+synchronize-state-requires c κs =
+    let l = c .before in
     let i = l .before in
     let ok = i .before .before .before .before .before .pre .0 in
-    (ok, in-plan _ _ _ (l .state-layout .ensures) (rw (← states-are ok) (i .if1 .taken)), k .clip-slots .ensures)
+    (ok, in-plan _ _ _ (l .state-layout .ensures) (rw (← states-are ok) (i .if1 .taken)))
 
 loop-again : tie.Need-loop-again Inv-loop μ-loop
 unfolding synchronizeStates
 loop-again c =
-    let l = c .before .before .before .before in
+    let l = c .before .before in
     let i = l .before in
     let m = i .before .before in
-    (omega (arith, i .if1 .taken), one-more-state _ _ _ _ _ _ _ _ (l .state-layout .ensures) (m .before .before .before .pre .1) (m .loop .inv .1) (c .synchronize .ensures))
+    (omega (arith, i .if1 .taken), one-more-state _ _ _ _ _ _ _ _ (l .state-layout .ensures) (m .before .before .before .pre .1) (m .loop .inv .1) (c .synchronize-state .ensures .1))
 
 returns : tie.Need-returns Inv-loop μ-loop
 returns c =
@@ -51,4 +44,4 @@ returns c =
     rw (← states-are (m .before .before .before .pre .0), ← e) (m .loop .inv .1)
 
 pub synchronize-states-spec : {M : Type 1} → statement M
-synchronize-states-spec = tie.close (tie.spec Inv-loop μ-loop loop-holds state-layout-requires clip-slots-requires synchronize-requires (search needs) (search needs) loop-again returns)
+synchronize-states-spec = tie.close (tie.spec Inv-loop μ-loop loop-holds state-layout-requires synchronize-state-requires (search needs) (search needs) loop-again returns)
