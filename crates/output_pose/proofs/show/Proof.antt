@@ -1,7 +1,10 @@
 -- `output_pose::show` meets its contract: either case of the transition is the definition's, call by call. Assumes nothing.
 use borrow.Author.Needs.{needs}
+use Rattle.model.proofs.Tags.{is-idle}
 use Rattle.layout.specs.Layout.{InPlan}
-use Rattle.output_pose.proofs.Laws.{passes, is-idle, target-below, target-in-plan, shown-idle, shown-running}
+use Rattle.layout.proofs.Laws.{in-plan}
+use Rattle.blend_tree.proofs.NodeLaws.{passes}
+use Rattle.output_pose.proofs.Laws.{target-below, shown-idle, shown-running}
 use Rattle.output_pose.proofs.show.Statement.{statement}
 use Rattle.output_pose.proofs.show.Tie as tie
 
@@ -15,18 +18,18 @@ state-layout-requires : tie.Need-state-layout-requires
 state-layout-requires c κs =
     let t = c .before .before in
     let s = t .before .before .before .before .before .before .before .before .before in
-    (passes _ _ _ (s .pre .0), s .pre .0 .found, target-below _ _ _ _ _ (t .transition .given .1) (s .pre .2))
+    (passes (s .pre .0), s .pre .0 .found, target-below _ _ _ _ _ (t .transition .given .1) (s .pre .2))
 
 there-in-plan : (c : tie.After-state-layout) → InPlan (c .before .before .before .before .before .before .before .before .before .before .before .before .args .plan .now) (c .state-layout .result)
 there-in-plan c =
     let t = c .before .before .before in
     let s = t .before .before .before .before .before .before .before .before .before in
-    target-in-plan _ _ _ _ _ _ (t .transition .given .1) (s .pre .2) (c .state-layout .ensures)
+    in-plan _ _ (c .state-layout .ensures) (target-below _ _ _ _ _ (t .transition .given .1) (s .pre .2))
 
 clip-slots-requires-2 : tie.Need-clip-slots-requires-2
 clip-slots-requires-2 c κs =
     let s = c .before .before .before .before .before .before .before .before .before .before .before .before in
-    (passes _ _ _ (s .pre .0), there-in-plan c)
+    (passes (s .pre .0), there-in-plan c)
 
 synchronize-requires-2 : tie.Need-synchronize-requires-2
 synchronize-requires-2 c κs =
