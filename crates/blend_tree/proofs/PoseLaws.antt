@@ -4,33 +4,32 @@ use Prim.Native.Nat.{ℕ, suc, _+_, _*_, _-_, _≤_, _<_}
 use native.Mathlib.Nat.{suc-mul, mul-le-mul-right, mod-lt}
 use native.Mathlib.Omega.{arith}
 use mathlib.Core.Path.{_≡_, refl, sym, ap, _∙_}
-use mathlib.Core.Bool.{true, false, cond}
+use mathlib.Core.Bool.{cond}
 use mathlib.Core.List.{List}
 use lib.ListN.{length, getD}
 use lib.Ieee.{Float}
 use lib.Dec.{eqb}
-use borrow.Author.Tests.{eq-eqb, ne-eqb}
 use Rattle.model.specs.declared.Pose.{Pose}
-use Rattle.model.specs.Answers.{accepted}
 use Rattle.model.specs.Numbers.{_*₃₂_}
-use Rattle.model.specs.Plan.{maxSamples, maxClipNodes, jointCount, clipCount, stateCount, sampleCount, nodeCount, kind, isClip, isLerp, clipNode, samplesBefore, posesAt, number, numberAt, numbersLength, samplePose, Rate}
-use Rattle.model.specs.Check.{checkState}
+use Rattle.model.specs.Plan.{maxSamples, jointCount, clipCount, stateCount, sampleCount, isLerp, clipNode, samplesBefore, posesAt, number, numberAt, numbersLength, samplePose, Rate}
 use Rattle.model.specs.Pose.{identityPose, lerp}
 use Rattle.model.specs.Clips.{firstIndex, secondIndex, localTime, instanceAt, poseAt, clipPose}
 use Rattle.model.specs.Tree.{parameter, additive, nodePose, nodePoses, statePose}
 use Rattle.model.specs.Laws.Totals.{total-below, total-most}
 use Rattle.model.specs.Laws.Table.{table-at}
-use Rattle.model.specs.Laws.State.{a-earlier, b-earlier, clip-below, parameter-below, some-nodes, few-nodes, few-clip-nodes}
-use Rattle.model.specs.Laws.Passed.{some-samples, few-samples, few-joints, few-clips, few-states, few-parameters, few-transitions-before, state-passed, numbers-fit}
+use Rattle.model.specs.Laws.State.{some-nodes}
+use Rattle.model.specs.Laws.Passed.{some-samples, few-samples, few-joints, few-clips, few-states, few-transitions-before, numbers-fit}
 use Rattle.layout.specs.declared.Layout.{Layout}
 use Rattle.layout.specs.declared.StateLayout.{StateLayout}
 use Rattle.layout.specs.declared.Node.{Node}
-use Rattle.layout.specs.Layout.{layoutOf, stateLayout, nodeOf, InPlan}
+use Rattle.layout.specs.Layout.{layoutOf, nodeOf, InPlan}
+use Rattle.layout.proofs.Laws.{here-ok, nodes-counted}
 use Rattle.animation.specs.declared.Position.{Position}
 use Rattle.animation.specs.Sampling.{positionIn, poseFrom}
 use Rattle.lanes.specs.Lanes.{blockSize, laneAt, LaneSet}
 use Rattle.lanes.proofs.Laws.{done-more, rest-less}
-use Rattle.blend_tree.specs.Blocks.{Filled, Playable, Slots, poseOfNode}
+use Rattle.blend_tree.specs.Blocks.{Filled, Playable, poseOfNode}
+use Rattle.blend_tree.proofs.NodeLaws.{passes, NodeRead, is-clip, no-clip, inputs-before}
 
 -- ---- a loop that puts f of x's lane and y's into x, lane by lane
 
@@ -61,10 +60,6 @@ unfolding poseFrom samplePose number numberAt
 sample-pose plan numbers c n first i =
     let e : posesFrom plan c n first + 8 * i ≡ posesFrom plan c n (first + i) = omega arith in
     rw e
-
-pub joints-found : {plan : List ℕ} {numbers : List Float} {layout : Layout} → Playable plan numbers layout → layout .joints ≡ jointCount plan
-unfolding layoutOf
-joints-found ok = ap (λ l. l .joints) (ok .found)
 
 -- what `clip_poses` has worked out: clip c has `samples`, the clips before it have `before`, and p is the position x in it
 pub record Positioned (plan : List ℕ) (numbers : List Float) (layout : Layout) (c samples before : ℕ) (p : Position) (x : Float) : Type 0 where
@@ -123,63 +118,10 @@ module _ {plan : List ℕ} {numbers : List Float} {layout : Layout} {c samples b
     clip-pose local ex i =
         rw (place (p .first) first low el, place (p .second) first high eh, sample-pose plan numbers c (p .first) first i, sample-pose plan numbers c (p .second) first i, s .found, s .sampled, ex)
 
--- ---- a node of a state
+-- ---- the pose of a node, from those of its inputs
 
--- node i's words, as `node_at` gives them
-pub record NodeRead (plan : List ℕ) (numbers : List Float) (layout : Layout) (here : StateLayout) (i : ℕ) (words : Node) : Type 0 where
-  pub playable : Playable plan numbers layout
-  pub state : InPlan plan here
-  pub below : i < here .nodes
-  pub found : words ≡ nodeOf plan (here .state) i
-
-module _ {plan : List ℕ} {here : StateLayout} (inside : InPlan plan here) where
-  pub nodes-found : here .nodes ≡ nodeCount plan (here .state)
-  unfolding stateLayout
-  nodes-found = ap (λ h. h .nodes) (inside .place)
-
-  pub state-ok : {numbers : List Float} {layout : Layout} → Playable plan numbers layout → checkState plan (here .state) ≡ accepted
-  state-ok {numbers} ok = state-passed plan (length numbers) (ok .passed) (here .state) (inside .below)
-
-module _ {plan : List ℕ} {numbers : List Float} {layout : Layout} {here : StateLayout} {i : ℕ} {words : Node} (r : NodeRead plan numbers layout here i words) where
-  ok : checkState plan (here .state) ≡ accepted
-  ok = state-ok (r .state) (r .playable)
-
-  below-count : i < nodeCount plan (here .state)
-  below-count = rw (nodes-found (r .state)) at (r .below)
-
-  is-clip : words .kind ≡ 0 → isClip plan (here .state) i ≡ true
-  unfolding isClip nodeOf
-  is-clip e = eq-eqb (kind plan (here .state) i) 0 (rw (r .found) at e)
-
-  no-clip : (words .kind ≡ 0 → ⊥) → isClip plan (here .state) i ≡ false
-  unfolding isClip nodeOf
-  no-clip e = ne-eqb (kind plan (here .state) i) 0 (rw (r .found) at e)
-
-  pub node-small : i < 32
-  node-small = omega (arith, below-count, few-nodes plan (here .state) ok)
-
-  pub clip-inside : words .kind ≡ 0 → words .a < clipCount plan
-  unfolding nodeOf
-  clip-inside e = rw (r .found) (clip-below plan (here .state) ok i below-count (is-clip e))
-
-  pub slot-found : {slots : List ℕ} → Slots plan (here .state) slots → getD slots i 0 ≡ clipNode plan (here .state) i
-  slot-found h = h .slot i below-count
-
-  pub slot-small : {slots : List ℕ} → Slots plan (here .state) slots → words .kind ≡ 0 → getD slots i 0 < maxClipNodes
-  slot-small h e = rw (slot-found h) (few-clip-nodes plan (here .state) ok i below-count (is-clip e))
-
-  pub inputs-before : (words .kind ≡ 0 → ⊥) → (words .a < i) × (words .b < i)
-  unfolding nodeOf
-  inputs-before e =
-      rw (r .found) (a-earlier plan (here .state) ok i below-count (no-clip e), b-earlier plan (here .state) ok i below-count (no-clip e))
-
-  pub parameter-small : (words .kind ≡ 0 → ⊥) → words .parameter < 32
-  unfolding nodeOf
-  parameter-small e =
-      rw (r .found) (omega (arith, parameter-below plan (here .state) ok i below-count (no-clip e), few-parameters plan (length numbers) (r .playable .passed)))
-
-  -- its pose, from those of its inputs
-  module _ (parameters : List Float) (time : Float) (instances : List Float) (j : ℕ) where
+module _ {plan : List ℕ} {here : StateLayout} {i : ℕ} {words : Node} (r : NodeRead plan here i words) where
+  module _ (numbers parameters : List Float) (time : Float) (instances : List Float) (j : ℕ) where
     abbrev poseOf : ℕ → Pose
     poseOf n = poseOfNode plan numbers parameters time (here .state) instances n j
 
@@ -193,22 +135,24 @@ module _ {plan : List ℕ} {numbers : List Float} {layout : Layout} {here : Stat
 
     pub of-clip : (local : Float) → words .kind ≡ 0 → local ≡ localTime (instanceAt instances (clipNode plan (here .state) i)) time → clipPose plan numbers (words .a) j local ≡ poseOf i
     unfolding nodeOf nodePose
-    of-clip local e el = rw (by-table i, is-clip e, r .found, el)
+    of-clip local e el = rw (by-table i, is-clip plan (here .state) i (r .found) e, r .found, el)
 
     pub of-inputs : {x y : Pose} → (words .kind ≡ 0 → ⊥) → x ≡ poseOf (words .a) → y ≡ poseOf (words .b)
         → let p = parameter parameters (words .parameter) in cond (eqb (words .kind) 1) (lerp x y p) (additive x y p) ≡ poseOf i
     unfolding isLerp nodeOf nodePose
     of-inputs e ex ey =
-        rw (by-table i, no-clip e, ex, ey, ← input (words .a) (inputs-before e .0), ← input (words .b) (inputs-before e .1), r .found)
+        let blend = no-clip plan (here .state) i (r .found) e in
+        let less = inputs-before r blend in
+        rw (by-table i, blend, ex, ey, ← input (words .a) (less .0), ← input (words .b) (less .1), r .found)
 
 -- ---- the root
 
 module _ {plan : List ℕ} {numbers : List Float} {layout : Layout} {here : StateLayout} (inside : InPlan plan here) (ok : Playable plan numbers layout) where
   pub root-there : 0 < here .nodes
-  root-there = rw (nodes-found inside) (some-nodes plan (here .state) (state-ok inside ok))
+  root-there = rw (nodes-counted inside) (some-nodes plan (here .state) (here-ok inside (passes ok)))
 
   pub root-pose : (parameters : List Float) (time : Float) (instances : List Float) (j : ℕ) → poseOfNode plan numbers parameters time (here .state) instances (here .nodes - 1) j ≡ statePose plan numbers parameters time (here .state) instances j
   unfolding statePose
   root-pose parameters time instances j =
       let e : suc (here .nodes - 1) ≡ here .nodes = omega (arith, root-there) in
-      rw (e, nodes-found inside)
+      rw (e, nodes-counted inside)

@@ -6,13 +6,12 @@ use lib.ListN.{length, getD}
 use lib.Ieee.{Float}
 use Rattle.model.specs.declared.Pose.{Pose}
 use Rattle.model.specs.Answers.{accepted}
-use Rattle.model.specs.Plan.{jointCount, nodeCount, isClip, clipNode}
+use Rattle.model.specs.Plan.{jointCount, nodeCount, clipNode}
 use Rattle.model.specs.Check.{check}
 use Rattle.model.specs.Pose.{identityPose}
 use Rattle.model.specs.Tree.{nodePoses}
 use Rattle.layout.specs.declared.Layout.{Layout}
-use Rattle.layout.specs.declared.StateLayout.{StateLayout}
-use Rattle.layout.specs.Layout.{layoutOf, InPlan}
+use Rattle.layout.specs.Layout.{layoutOf}
 use Rattle.lanes.specs.Lanes.{blockSize, laneAt}
 
 -- lane i of the first `count` is the pose f i

@@ -4,7 +4,7 @@ use native.Mathlib.Omega.{arith}
 use native.Mathlib.Numerals.{add-one}
 use mathlib.Core.Path.{_≡_, refl, sym, ap, subst, _∙_}
 use mathlib.Core.Bool.{Bool, true, false}
-use mathlib.Core.List.{List, map}
+use mathlib.Core.List.{List}
 use lib.ListN.{length, replicate}
 use lib.Ieee.{Float}
 use denote.Enum.Declared.{tagOf}
@@ -13,15 +13,15 @@ use Rattle.model.specs.declared.Answer.{Answer}
 use Rattle.model.specs.declared.Answer.the-variants as answer
 use Rattle.model.specs.declared.Outcome.{Outcome}
 use Rattle.model.specs.declared.Player.{Player}
-use Rattle.model.specs.declared.Transition.{Transition}
 use Rattle.model.proofs.Answer.{the-type}
+use Rattle.model.proofs.Tags.{never}
 use Rattle.model.specs.Answers.{Verdict, accepted, refused, values, _then_, require, unlessRefused}
 use Rattle.model.specs.Plan.{jointCount, stateCount, outputAt}
 use Rattle.model.specs.Numbers.{0f}
 use Rattle.model.specs.Check.{check}
 use Rattle.model.specs.Tree.{synchronize}
 use Rattle.model.specs.Controller.{blank, fresh, synchronizeStates, withState, withTransition, withInstances, isTargetBelow, frameVerdict, nowAt, stepFrom, elapsed}
-use Rattle.model.specs.Skeleton.{jointMatrices, pageMatrix, flat, written}
+use Rattle.model.specs.Skeleton.{jointMatrices, written}
 use Rattle.model.specs.Run.{startVerdict, startPlayer, FrameKind, ordinary, page, shown, framePlayer, frameMatrices}
 use Rattle.model.specs.Promises.{Started, Framed}
 use Rattle.model.specs.Laws.Answers.{then-left, then-right, require-true}
@@ -30,7 +30,8 @@ use Rattle.model.specs.Laws.Steps.{step-target-below, step-state-below}
 use Rattle.model.specs.Laws.Table.{table-length}
 use Rattle.layout.specs.declared.Layout.{Layout}
 use Rattle.layout.specs.declared.StateLayout.{StateLayout}
-use Rattle.layout.specs.Layout.{layoutOf, stateLayout, Passes, InPlan}
+use Rattle.layout.specs.Layout.{layoutOf, stateLayout}
+use Rattle.layout.proofs.Laws.{joints-found, states-found, same-state}
 use Rattle.plan.specs.declared.Checked.{Checked}
 use Rattle.plan.specs.declared.Checked.the-variants as checked
 use Rattle.plan.proofs.Checked.{the-type as checked-type}
@@ -39,31 +40,13 @@ use Rattle.plan.specs.Checked.{verdict, layoutIn, PlanChecked}
 use Rattle.blend_tree.specs.Blocks.{Playable}
 use Rattle.skeleton.specs.Buffer.{Paged}
 use Rattle.transitions.specs.Step.{StepMade}
-use Rattle.output_pose.specs.Shown.{Shown, skeletonOf}
+use Rattle.output_pose.specs.Shown.{Shown}
 
 -- ---- the check's enum
 
 pub playable : (plan : List ℕ) (numbers : List Float) (k : Checked) (l : Layout) → PlanChecked plan (length numbers) k → k ≡ checked.Passed l → Playable plan numbers l
 unfolding verdict layoutIn
 playable plan numbers k l done e = record { passed = sym (done .answer) ∙ ap verdict e; found = sym (ap (layoutIn (layoutOf plan)) e) ∙ done .layout }
-
-pub passes : {plan : List ℕ} {numbers : List Float} {l : Layout} → Playable plan numbers l → Passes plan
-passes {plan} {numbers} {l} h = record { numbers = length numbers; passed = h .passed }
-
--- the layout's counts are the plan's
-pub states-are : {plan : List ℕ} {numbers : List Float} {l : Layout} → Playable plan numbers l → l .states ≡ stateCount plan
-unfolding layoutOf
-states-are h = ap (λ (l : Layout). l .states) (h .found)
-
-pub joints-are : {plan : List ℕ} {numbers : List Float} {l : Layout} → Playable plan numbers l → l .joints ≡ jointCount plan
-unfolding layoutOf
-joints-are h = ap (λ (l : Layout). l .joints) (h .found)
-
-pub in-plan : (plan : List ℕ) (s : ℕ) (here : StateLayout) → here ≡ stateLayout plan s → s < stateCount plan → InPlan plan here
-unfolding stateLayout
-in-plan plan s here e h =
-    let n : here .state ≡ s = ap (λ (l : StateLayout). l .state) e in
-    record { below = rw n h; place = e ∙ ap (stateLayout plan) (sym n) }
 
 -- ---- steps 1 to 3
 
@@ -74,8 +57,7 @@ module _ (plan : List ℕ) (numbers : List Float) (p : Player) (ext : Float) (r 
   after-step = withTransition (withState p (r .state)) (r .transition)
 
   step-is : stepFrom plan numbers (nowAt p ext) p (p .transition) ≡ after-step
-  unfolding stateLayout
-  step-is = made .step p (sym (ap (λ (l : StateLayout). l .state) at)) refl refl
+  step-is = made .step p (sym (same-state plan (p .state) at)) refl refl
 
   pub still-below : check plan (length numbers) ≡ accepted → p .state < stateCount plan → isTargetBelow (stateCount plan) (p .transition) ≡ true → r .state < stateCount plan
   still-below ok h t = subst (λ (q : Player). q .state < stateCount plan) step-is (step-state-below plan numbers p (nowAt p ext) (state-passed plan (length numbers) ok (p .state) h) (p .transition) h t)
@@ -86,17 +68,13 @@ module _ (plan : List ℕ) (numbers : List Float) (p : Player) (ext : Float) (r 
 
   module _ (here : StateLayout) (there : here ≡ stateLayout plan (r .state)) (time : Float) (told : time ≡ elapsed p ext) (after old new : List Float)
       (done : Shown plan numbers time (nowAt p ext) (here .state) (r .transition) (p .parameters) (p .instances) after old new) where
-    same-state : after-step .state ≡ here .state
-    unfolding stateLayout
-    same-state = sym (ap (λ (l : StateLayout). l .state) there)
-
     pub played : withInstances after-step after ≡ framePlayer plan numbers p ext
     unfolding framePlayer
-    played = rw (step-is, done .instances after-step same-state refl refl, told)
+    played = rw (step-is, done .instances after-step (sym (same-state plan (r .state) there)) refl refl, told)
 
     pub drawn : new ≡ written plan (frameMatrices plan numbers p ext ordinary) old
     unfolding frameMatrices shown
-    drawn = rw step-is (rw told at (done .output after-step same-state refl refl))
+    drawn = rw step-is (rw told at (done .output after-step (sym (same-state plan (r .state) there)) refl refl))
 
 -- ---- the answers of a frame
 
@@ -122,15 +100,15 @@ module _ (plan : List ℕ) (numbers : List Float) (p : Player) (n : ℕ) where
 module _ (plan : List ℕ) (numbers : List Float) (l : Layout) (ok : Playable plan numbers l) (p : Player) (n : ℕ) where
   pub state-refuses : l .states ≤ p .state → frameVerdict plan numbers p n ≡ refused 9 0 0
   unfolding frameVerdict _then_ require
-  state-refuses h = let k : stateCount plan ≤ p .state = rw (← states-are ok) h in rw (ok .passed, le-ltb (p .state) (stateCount plan) k)
+  state-refuses h = let k : stateCount plan ≤ p .state = rw (← states-found plan (ok .found)) h in rw (ok .passed, le-ltb (p .state) (stateCount plan) k)
 
   module _ (h : p .state < l .states) where
     pub in-range : p .state < stateCount plan
-    in-range = rw (← states-are ok) h
+    in-range = rw (← states-found plan (ok .found)) h
 
     module _ (below : Bool) (told : below ≡ isTargetBelow (l .states) (p .transition)) where
       target-is : isTargetBelow (stateCount plan) (p .transition) ≡ below
-      target-is = rw (← states-are ok) (sym told)
+      target-is = rw (← states-found plan (ok .found)) (sym told)
 
       pub target-refuses : below ≡ false → frameVerdict plan numbers p n ≡ refused 9 0 0
       unfolding frameVerdict _then_ require
@@ -141,12 +119,12 @@ module _ (plan : List ℕ) (numbers : List Float) (l : Layout) (ok : Playable pl
         target-below = target-is ∙ e
 
         pub output-fits : at ≤ n → outputAt (jointCount plan) ≤ n
-        output-fits f = rw (← joints-are ok, ← end) f
+        output-fits f = rw (← joints-found plan (ok .found), ← end) f
 
         pub output-refuses : n < at → frameVerdict plan numbers p n ≡ refused 10 0 0
         unfolding frameVerdict _then_ require
         output-refuses f =
-            let g : n < outputAt (jointCount plan) = rw (← joints-are ok, ← end) f in
+            let g : n < outputAt (jointCount plan) = rw (← joints-found plan (ok .found), ← end) f in
             rw (ok .passed, lt-ltb (p .state) (stateCount plan) in-range, target-below, lt-leb (outputAt (jointCount plan)) n g)
 
         pub nothing-refuses : at ≤ n → frameVerdict plan numbers p n ≡ accepted
@@ -181,14 +159,9 @@ module _ (plan : List ℕ) (numbers : List Float) (p : Player) (ext : Float) (ol
   unrefused accepted a b o h = absurd (h refl)
   unrefused (refused k m n) a b o h = refl
 
-  not-accepted : (a : Answer) → tagOf the-type a ≡ 1 → values a ≡ accepted → ⊥
-  unfolding values
-  not-accepted answer.Accepted t e = omega (arith, t)
-  not-accepted (answer.Refused k m) t e = let z : _≡_ {A = ℕ} 0 1 = cc in omega arith
-
   pub page-refused : tagOf the-type (r .answer) ≡ 1 → Framed page plan numbers p ext old mid r
   page-refused t =
-      record { answer = done .answer; player = done .player; output = done .output ∙ unrefused _ _ _ _ (λ e. not-accepted (r .answer) t (done .answer ∙ e)) }
+      record { answer = done .answer; player = done .player; output = done .output ∙ unrefused _ _ _ _ (λ e. never (r .answer) t (done .answer ∙ e)) }
 
   module _ (e : r .answer ≡ answer.Accepted) where
     accepted-frame : frameVerdict plan numbers p (length old) ≡ accepted

@@ -1,28 +1,38 @@
 -- Where the words and numbers of a passed plan stand, told from its layouts. Assumes nothing.
-use Prim.Native.Nat.{ℕ, _+_, _*_, _/_, _<_}
+use Prim.Native.Nat.{ℕ, _+_, _*_, _/_, _≤_, _<_}
 use native.Mathlib.Nat.{add-zero}
 use native.Mathlib.Numerals.{add-one}
 use native.Mathlib.Omega.{arith}
-use mathlib.Core.Path.{_≡_, ap}
+use mathlib.Core.Path.{_≡_, refl, ap, sym, _∙_}
 use mathlib.Core.List.{List}
-use lib.ListN.{length, getD}
+use lib.ListN.{length}
 use Rattle.model.specs.Answers.{accepted}
-use Rattle.model.specs.Plan.{word, clipCount, stateCount, sampleCountAt, afterNodes, afterTransitions, stateAt, nodeCount, kindAt, transitionCountAt, transitionCount, conditionParameterAt, total, clipNodesBefore, transitionsBefore, numberAt, Value, Duration}
+use Rattle.model.specs.Plan.{word, jointCount, clipCount, stateCount, sampleCountAt, afterNodes, afterTransitions, stateAt, nodeCount, kindAt, transitionCountAt, transitionCount, conditionParameterAt, total, clipNodesBefore, transitionsBefore, numberAt, Value, Duration}
 use Rattle.model.specs.Check.{checkState}
-use Rattle.model.specs.Laws.State.{node-there, transition-there, transition-count-there, few-transitions}
+use Rattle.model.specs.Laws.State.{node-there, transition-there, transition-count-there, few-nodes, few-transitions}
 use Rattle.model.specs.Laws.Trees.{clip-nodes-divided}
 use Rattle.model.specs.Laws.Passed.{sample-count-there, state-passed, few-clips, few-states, few-transitions-before, few-clip-nodes-before}
 use Rattle.layout.specs.declared.Layout.{Layout}
 use Rattle.layout.specs.declared.StateLayout.{StateLayout}
 use Rattle.layout.specs.Layout.{Passes, InPlan, layoutOf, stateLayout}
 
-module _ (plan : List ℕ) (l : Layout) (ok : Passes plan) (e : l ≡ layoutOf plan) where
-  pub sample-count-place : (c : ℕ) → 5 + l .joints + c ≡ sampleCountAt plan c
-  unfolding layoutOf sampleCountAt
-  sample-count-place c = rw e
+-- ---- the layout of a plan
 
-  pub sample-count-read : (c : ℕ) → c < clipCount plan → 5 + l .joints + c < length plan
-  sample-count-read c h = rw (sample-count-place c) (sample-count-there plan (ok .numbers) (ok .passed) c h)
+module _ (plan : List ℕ) {l : Layout} (e : l ≡ layoutOf plan) where
+  pub joints-found : l .joints ≡ jointCount plan
+  unfolding layoutOf
+  joints-found = ap (λ l. l .joints) e
+
+  pub states-found : l .states ≡ stateCount plan
+  unfolding layoutOf
+  states-found = ap (λ l. l .states) e
+
+  pub sample-count-place : (c : ℕ) → 5 + l .joints + c ≡ sampleCountAt plan c
+  unfolding sampleCountAt
+  sample-count-place c = rw joints-found
+
+  pub sample-count-read : Passes plan → (c : ℕ) → c < clipCount plan → 5 + l .joints + c < length plan
+  sample-count-read ok c h = rw (sample-count-place c) (sample-count-there plan (ok .numbers) (ok .passed) c h)
 
 -- ---- a state
 
@@ -39,63 +49,107 @@ module _ (plan : List ℕ) (ok : Passes plan) (s : ℕ) (below : s < stateCount 
   values-small =
       omega (arith, few-clips plan (ok .numbers) (ok .passed), few-states plan (ok .numbers) (ok .passed), few-transitions-before plan (ok .numbers) (ok .passed) s (omega arith), few-transitions plan s state-ok)
 
--- the same from a place that was counted up, and one state on
-module _ (plan : List ℕ) (s at : ℕ) (e : at ≡ stateAt plan s) where
-  pub counts-read : Passes plan → s < stateCount plan → at + 1 + 4 * getD plan at 0 < length plan
-  unfolding word afterNodes transitionCountAt
-  counts-read ok below = rw e (transition-count-there plan s (state-ok plan ok s below))
+-- where its nodes and transitions stand
+pub kind-place : (plan : List ℕ) (s from i : ℕ) → from ≡ kindAt plan s 0 → from + 4 * i ≡ kindAt plan s i
+unfolding kindAt
+kind-place plan s from i e = omega arith
 
-  pub state-next : let t = at + 1 + 4 * getD plan at 0 in t + 1 + 3 * getD plan t 0 ≡ stateAt plan (s + 1)
-  unfolding word stateAt afterTransitions afterNodes
-  state-next = rw (add-one s, e)
+pub condition-place : (plan : List ℕ) (s from t : ℕ) → from ≡ conditionParameterAt plan s 0 → from + 3 * t ≡ conditionParameterAt plan s t
+unfolding conditionParameterAt
+condition-place plan s from t e = omega arith
 
-  pub values-next : (v : ℕ) → v ≡ numberAt plan (Value s 0) → v + 2 * getD plan (at + 1 + 4 * getD plan at 0) 0 ≡ numberAt plan (Value (s + 1) 0)
-  unfolding word afterNodes transitionCountAt transitionCount transitionsBefore total numberAt
-  values-next v h = rw (add-one s, e, h) (omega arith)
+-- from the word at its place, which counts k nodes
+module _ (plan : List ℕ) (s at k : ℕ) (place : at ≡ stateAt plan s) (nodes : k ≡ word plan at) where
+  pub nodes-are : k ≡ nodeCount plan s
+  unfolding nodeCount
+  nodes-are = rw (nodes, place)
 
-  pub clips-next : Passes plan → s < stateCount plan → (n : ℕ) → n ≡ clipNodesBefore plan s → n + (getD plan at 0 + 1) / 2 ≡ clipNodesBefore plan (s + 1)
-  unfolding word nodeCount clipNodesBefore total
-  clips-next ok below n h = rw (add-one s, e, h, clip-nodes-divided plan s (state-ok plan ok s below))
+  pub counts-read : checkState plan s ≡ accepted → at + 1 + 4 * k < length plan
+  unfolding transitionCountAt afterNodes
+  counts-read ok = rw (nodes, place) (transition-count-there plan s ok)
 
-  pub state-found : (v n : ℕ) → v ≡ numberAt plan (Value s 0) → n ≡ clipNodesBefore plan s
-      → let t = at + 1 + 4 * getD plan at 0 in
-      record { state = s; «nodes_at» = at + 1; nodes = getD plan at 0; «transitions_at» = t + 1; transitions = getD plan t 0; «values_at» = v; «clip_node» = n } ≡ stateLayout plan s
-  unfolding word afterNodes nodeCount kindAt transitionCountAt transitionCount conditionParameterAt stateLayout
-  state-found v n h k = rw (e, h, k, add-zero (stateAt plan s + 1), add-zero (transitionCountAt plan s + 1))
+  pub clips-next : checkState plan s ≡ accepted → (n : ℕ) → n ≡ clipNodesBefore plan s → n + (k + 1) / 2 ≡ clipNodesBefore plan (s + 1)
+  unfolding clipNodesBefore total
+  clips-next ok n h = rw (add-one s, h, nodes-are, clip-nodes-divided plan s ok)
 
-module _ (plan : List ℕ) (here : StateLayout) (inside : InPlan plan here) where
-  -- ---- places
+  -- and the word after these, which counts t transitions
+  module _ (t : ℕ) (transitions : t ≡ word plan (at + 1 + 4 * k)) where
+    pub transitions-are : t ≡ transitionCount plan s
+    unfolding transitionCount transitionCountAt afterNodes
+    transitions-are = rw (transitions, nodes, place)
 
-  pub node-place : (i : ℕ) → here .«nodes_at» + 4 * i ≡ kindAt plan (here .state) i
-  unfolding stateLayout kindAt
-  node-place i = omega (arith, ap (λ h. h .«nodes_at») (inside .place))
+    pub state-next : at + 1 + 4 * k + 1 + 3 * t ≡ stateAt plan (s + 1)
+    unfolding stateAt afterTransitions afterNodes
+    state-next = rw (add-one s, transitions, nodes, place)
 
-  pub condition-place : (t : ℕ) → here .«transitions_at» + 3 * t ≡ conditionParameterAt plan (here .state) t
-  unfolding stateLayout conditionParameterAt
-  condition-place t = omega (arith, ap (λ h. h .«transitions_at») (inside .place))
+    pub transitions-next : (n : ℕ) → n ≡ transitionsBefore plan s → n + t ≡ transitionsBefore plan (s + 1)
+    unfolding transitionsBefore total
+    transitions-next n h = rw (add-one s, h, transitions-are)
 
-  pub value-place : (t : ℕ) → here .«values_at» + 2 * t ≡ numberAt plan (Value (here .state) t)
+    pub values-next : (v : ℕ) → v ≡ numberAt plan (Value s 0) → v + 2 * t ≡ numberAt plan (Value (s + 1) 0)
+    unfolding numberAt
+    values-next v h = omega (arith, h, transitions-next (transitionsBefore plan s) refl)
+
+    pub state-found : (v n : ℕ) → v ≡ numberAt plan (Value s 0) → n ≡ clipNodesBefore plan s
+        → record { state = s; «nodes_at» = at + 1; nodes = k; «transitions_at» = at + 1 + 4 * k + 1; transitions = t; «values_at» = v; «clip_node» = n } ≡ stateLayout plan s
+    unfolding afterNodes nodeCount kindAt transitionCountAt transitionCount conditionParameterAt stateLayout
+    state-found v n h q = rw (transitions, nodes, place, h, q, add-zero (stateAt plan s + 1), add-zero (transitionCountAt plan s + 1))
+
+-- ---- the layout of a state
+
+module _ (plan : List ℕ) (s : ℕ) {here : StateLayout} (e : here ≡ stateLayout plan s) where
+  pub same-state : here .state ≡ s
+  unfolding stateLayout
+  same-state = ap (λ h. h .state) e
+
+  pub in-plan : s < stateCount plan → InPlan plan here
+  in-plan below = record { below = rw same-state below; place = e ∙ ap (stateLayout plan) (sym same-state) }
+
+module _ {plan : List ℕ} {here : StateLayout} (inside : InPlan plan here) where
+  pub nodes-counted : here .nodes ≡ nodeCount plan (here .state)
+  unfolding stateLayout
+  nodes-counted = ap (λ h. h .nodes) (inside .place)
+
+  pub transitions-counted : here .transitions ≡ transitionCount plan (here .state)
+  unfolding stateLayout
+  transitions-counted = ap (λ h. h .transitions) (inside .place)
+
+  pub clips-counted : here .«clip_node» ≡ clipNodesBefore plan (here .state)
+  unfolding stateLayout
+  clips-counted = ap (λ h. h .«clip_node») (inside .place)
+
+  pub node-found : (i : ℕ) → here .«nodes_at» + 4 * i ≡ kindAt plan (here .state) i
+  unfolding stateLayout
+  node-found i = kind-place plan (here .state) _ i (ap (λ h. h .«nodes_at») (inside .place))
+
+  pub condition-found : (t : ℕ) → here .«transitions_at» + 3 * t ≡ conditionParameterAt plan (here .state) t
+  unfolding stateLayout
+  condition-found t = condition-place plan (here .state) _ t (ap (λ h. h .«transitions_at») (inside .place))
+
+  pub value-found : (t : ℕ) → here .«values_at» + 2 * t ≡ numberAt plan (Value (here .state) t)
   unfolding stateLayout numberAt
-  value-place t = omega (arith, ap (λ h. h .«values_at») (inside .place))
+  value-found t = omega (arith, ap (λ h. h .«values_at») (inside .place))
 
-  pub duration-place : (t : ℕ) → here .«values_at» + 2 * t + 1 ≡ numberAt plan (Duration (here .state) t)
-  unfolding stateLayout numberAt
-  duration-place t = omega (arith, ap (λ h. h .«values_at») (inside .place))
+  pub duration-found : (t : ℕ) → here .«values_at» + 2 * t + 1 ≡ numberAt plan (Duration (here .state) t)
+  unfolding numberAt
+  duration-found t = omega (arith, value-found t)
 
-  -- ---- the words there
-
+  -- what the check has seen of it
   module _ (ok : Passes plan) where
+    pub here-ok : checkState plan (here .state) ≡ accepted
+    here-ok = state-ok plan ok (here .state) (inside .below)
+
+    pub clip-node-small : here .«clip_node» < 1000
+    clip-node-small = rw clips-counted (clips-small plan ok (here .state) (inside .below))
+
+    pub nodes-few : here .nodes ≤ 31
+    nodes-few = rw nodes-counted (few-nodes plan (here .state) here-ok)
+
     pub node-read : (i : ℕ) → i < here .nodes → here .«nodes_at» + 4 * i + 3 < length plan
-    unfolding stateLayout
-    node-read i h =
-        omega (arith, node-place i, node-there plan (here .state) (state-ok plan ok (here .state) (inside .below)) i (omega (arith, ap (λ h. h .nodes) (inside .place))))
+    node-read i h = omega (arith, node-found i, node-there plan (here .state) here-ok i (omega (arith, nodes-counted)))
 
     pub condition-read : (t : ℕ) → t < here .transitions → here .«transitions_at» + 3 * t + 2 < length plan
-    unfolding stateLayout
-    condition-read t h =
-        omega (arith, condition-place t, transition-there plan (here .state) (state-ok plan ok (here .state) (inside .below)) t (omega (arith, ap (λ h. h .transitions) (inside .place))))
+    condition-read t h = omega (arith, condition-found t, transition-there plan (here .state) here-ok t (omega (arith, transitions-counted)))
 
     pub value-read : (t : ℕ) → t < here .transitions → here .«values_at» + 2 * t < 1000
-    unfolding stateLayout
-    value-read t h =
-        omega (arith, values-small plan ok (here .state) (inside .below), ap (λ h. h .«values_at») (inside .place), ap (λ h. h .transitions) (inside .place))
+    value-read t h = omega (arith, values-small plan ok (here .state) (inside .below), value-found 0, transitions-counted)

@@ -1,48 +1,41 @@
 -- A skeleton written block by block, and what a frame's steps 2 and 3 show in either case of the transition. Assumes nothing.
 use Prim.Native.Nat.{ℕ, _+_, _<_, _≤_}
 use native.Mathlib.Omega.{arith}
-use mathlib.Core.Path.{_≡_, refl, sym, ap, _∙_}
+use mathlib.Core.Path.{_≡_, refl}
 use mathlib.Core.Bool.{true}
 use mathlib.Core.List.{List}
 use lib.ListN.{length}
 use lib.Ieee.{Float}
 use borrow.Author.Tests.{ltb-true}
-use denote.Enum.Declared.{tagOf}
-use Rattle.model.proofs.Transition.{the-type}
 use Rattle.model.specs.declared.Pose.{Pose}
 use Rattle.model.specs.declared.Transition.{Transition}
 use Rattle.model.specs.declared.Transition.the-variants.{Idle, Running}
 use Rattle.model.specs.Pose.{lerp}
-use Rattle.model.specs.Plan.{jointCount, stateCount, outputAt}
+use Rattle.model.specs.Plan.{jointCount, outputAt}
 use Rattle.model.specs.Table.{tableTo}
 use Rattle.model.specs.Tree.{statePose, synchronize}
 use Rattle.model.specs.Controller.{isTargetBelow, transitionFactor, currentInstances, targetInstances, instancesIn, currentPose, targetPose, poseIn}
 use Rattle.model.specs.Skeleton.{jointMatrices, flat, written}
 use Rattle.layout.specs.declared.Layout.{Layout}
 use Rattle.layout.specs.declared.StateLayout.{StateLayout}
-use Rattle.layout.specs.Layout.{Passes, InPlan, layoutOf, stateLayout}
+use Rattle.layout.specs.Layout.{Passes, stateLayout}
+use Rattle.layout.proofs.Laws.{joints-found, same-state}
 use Rattle.lanes.specs.Lanes.{blockSize, laneAt}
 use Rattle.blend_tree.specs.Blocks.{Filled, Playable, InBlock}
+use Rattle.blend_tree.proofs.NodeLaws.{passes}
 use Rattle.skeleton.specs.Buffer.{jointsWritten}
 use Rattle.output_pose.specs.Shown.{skeletonOf, Blended, Shown}
 
 -- ---- blocks
 
-module _ (plan : List ℕ) (numbers : List Float) (layout : Layout) (ok : Playable plan numbers layout) where
-  pub passes : Passes plan
-  passes = record { numbers = length numbers; passed = ok .passed }
-
-  pub joints-found : layout .joints ≡ jointCount plan
-  unfolding layoutOf
-  joints-found = ap (λ (l : Layout). l .joints) (ok .found)
-
+module _ {plan : List ℕ} {numbers : List Float} {layout : Layout} (ok : Playable plan numbers layout) where
   pub in-block : (first count : ℕ) → count ≤ blockSize → first + count ≤ layout .joints → InBlock plan first count
-  in-block first count small inside = record { small = small; inside = omega (arith, joints-found) }
+  in-block first count small inside = record { small = small; inside = omega (arith, joints-found plan (ok .found)) }
 
   -- and there is room for the block's matrices
   pub room : (first count : ℕ) (new old : List Float) → count ≤ blockSize → first + count ≤ layout .joints → length new ≡ length old → outputAt (jointCount plan) ≤ length old
       → Passes plan × (count ≤ blockSize) × (first + count ≤ jointCount plan) × (outputAt (first + count) ≤ length new)
-  room first count new old small inside e h = (passes, small, omega (arith, joints-found), omega (arith, joints-found))
+  room first count new old small inside e h = (passes ok, small, omega (arith, joints-found plan (ok .found)), omega (arith, joints-found plan (ok .found)))
 
 -- two blocks blended lane by lane
 pub blended : (f g : ℕ → Pose) (factor : Float) (count : ℕ) (x y z : List Float) → Filled f count x → Filled g count y
@@ -60,22 +53,9 @@ module _ (plan : List ℕ) (poseOf : ℕ → Pose) (old : List Float) where
 
 -- ---- the transition
 
-pub is-idle : (t : Transition) → tagOf the-type t ≡ 0 → t ≡ Idle
-is-idle Idle e = refl
-is-idle (Running start target duration) e = absurd (omega (arith, e))
-
 pub target-below : (n : ℕ) (t : Transition) (start duration : Float) (target : ℕ) → t ≡ Running start target duration → isTargetBelow n t ≡ true → target < n
 unfolding isTargetBelow
 target-below n t start duration target e h = ltb-true _ _ (rw e at h)
-
-pub same-state : (plan : List ℕ) (s : ℕ) (there : StateLayout) → there ≡ stateLayout plan s → there .state ≡ s
-unfolding stateLayout
-same-state plan s there e = ap (λ (l : StateLayout). l .state) e
-
-pub in-plan : (plan : List ℕ) (s : ℕ) (there : StateLayout) → s < stateCount plan → there ≡ stateLayout plan s → InPlan plan there
-in-plan plan s there h k =
-    let same = same-state plan s there k in
-    record { below = omega (arith, same); place = k ∙ ap (stateLayout plan) (sym same) }
 
 -- a state on its way to another, from the layout of the other
 pub blended-to : (plan : List ℕ) (numbers : List Float) (time factor : Float) (state target : ℕ) (parameters before after old new : List Float) (there : StateLayout) → there ≡ stateLayout plan target
@@ -83,7 +63,7 @@ pub blended-to : (plan : List ℕ) (numbers : List Float) (time factor : Float) 
     → new ≡ skeletonOf plan (λ j. lerp (statePose plan numbers parameters time state before j) (statePose plan numbers parameters time (there .state) after j) factor) old
     → Blended plan numbers time factor state target parameters before after old new
 blended-to plan numbers time factor state target parameters before after old new there s h k =
-    let same = same-state plan target there s in
+    let same = same-state plan target s in
     record { instances = rw (← same) h; output = rw (← same) k }
 
 module _ (plan : List ℕ) (numbers : List Float) (time instant : Float) (state : ℕ) (parameters before old : List Float) where

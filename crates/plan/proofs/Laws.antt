@@ -18,12 +18,6 @@ unfolding values
 stops Accepted v w t e = absurd (omega (arith, t))
 stops (Refused n p) v w t e = sym (then-refused v w n p 0 (sym e))
 
--- such an answer accepts nothing
-pub never : (a : Answer) → tagOf the-type a ≡ 1 → values a ≡ accepted → ⊥
-unfolding values
-never Accepted t e = omega (arith, t)
-never (Refused n p) t e = let z : _≡_ {A = ℕ} 0 1 = cc in omega arith
-
 pub passed : (a : Answer) (v : Verdict) → a ≡ Accepted → values a ≡ v → v ≡ accepted
 unfolding values
 passed a v q e = sym e ∙ rw q

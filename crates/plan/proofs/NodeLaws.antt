@@ -1,5 +1,5 @@
--- Laws of a node's check, of the marks and of the clip nodes' numbers, over plain values. Assumes nothing.
-use Prim.Native.Nat.{ℕ, suc, _+_, _*_, _≤_, _<_}
+-- Laws of a node's check and of the marks, over plain values. Assumes nothing.
+use Prim.Native.Nat.{ℕ, suc, _+_, _≤_, _<_}
 use native.Mathlib.Omega.{arith}
 use native.Mathlib.Decide.{ℕ-discrete, decLt}
 use native.Mathlib.Numerals.{add-one}
@@ -15,15 +15,11 @@ use Rattle.model.specs.declared.Answer.{Answer}
 use Rattle.model.specs.declared.Answer.the-variants.{Accepted}
 use Rattle.model.proofs.Answer.{the-type}
 use Rattle.model.specs.Answers.{Verdict, accepted, refused, values, _then_, each, require}
-use Rattle.model.specs.Plan.{maxClipNodes, word, clipCount, parameterCount, kindAt, kind, isClip, inputA, inputB, nodeParameter, total, clipNodesAmong, clipNode}
+use Rattle.model.specs.Plan.{maxClipNodes, word, clipCount, parameterCount, kindAt, kind, isClip, inputA, inputB, nodeParameter, clipNode}
 use Rattle.model.specs.Check.{wordIs, used, checkNode}
 use Rattle.model.specs.Laws.Answers.{each-next, each-stops}
 use Rattle.plan.specs.Parts.{checkClip, checkBlend, Marks}
 use Rattle.plan.proofs.Laws.{stops, goes}
-
-pub kind-place : (plan : List ℕ) (s from i : ℕ) → from ≡ kindAt plan s 0 → from + 4 * i ≡ kindAt plan s i
-unfolding kindAt
-kind-place plan s from i e = omega arith
 
 -- ---- the kind of node i of state s, which stands at `at`
 
@@ -114,17 +110,6 @@ module _ (plan : List ℕ) (s i at : ℕ) (place : at ≡ kindAt plan s i) (few 
 
         pub blend-ends : b ≡ Accepted → (parameters : ℕ) → parameters ≡ parameterCount plan → (c : Answer) → values c ≡ wordIs plan 4 (at + 3) (ltb (word plan (at + 3)) parameters) → values c ≡ checkBlend plan s i
         blend-ends q₂ parameters count c e₃ = goes _ _ _ _ q₂ (goes _ _ _ _ q (rw is at e) (rw is₂ at e₂)) (rw count at e₃) ∙ sym blend-words
-
--- ---- clip nodes are numbered in a row
-
-module _ (plan : List ℕ) (s i : ℕ) where
-  pub clip-counts : isClip plan s i ≡ true → clipNode plan s (suc i) ≡ clipNode plan s i + 1
-  unfolding clipNode clipNodesAmong total
-  clip-counts e = rw e (omega arith)
-
-  pub blend-counts : isClip plan s i ≡ false → clipNode plan s (suc i) ≡ clipNode plan s i
-  unfolding clipNode clipNodesAmong total
-  blend-counts e = rw e (omega arith)
 
 -- ---- marks
 

@@ -1,7 +1,6 @@
 -- Laws of a state's check, over plain values. Assumes nothing.
-use Prim.Native.Nat.{ℕ, zero, suc, _+_, _*_, _-_, _/_, _≤_, _<_}
+use Prim.Native.Nat.{ℕ, zero, suc, _+_, _*_, _-_, _≤_, _<_}
 use native.Mathlib.Omega.{arith}
-use native.Mathlib.Numerals.{add-one}
 use mathlib.Core.Path.{_≡_, refl, sym, _∙_}
 use mathlib.Core.Bool.{Bool, false}
 use mathlib.Core.List.{List}
@@ -13,20 +12,16 @@ use Rattle.model.specs.declared.Answer.{Answer}
 use Rattle.model.specs.declared.Answer.the-variants.{Accepted}
 use Rattle.model.proofs.Answer.{the-type}
 use Rattle.model.specs.Answers.{Verdict, accepted, values, _then_, each, require}
-use Rattle.model.specs.Plan.{word, parameterCount, stateCount, stateAt, nodeCount, kindAt, afterNodes, afterTransitions, transitionCountAt, transitionCount, conditionParameterAt, conditionParameter, operator, targetState, total, clipNodesAmong, clipNodesBefore, clipNode, transitionsBefore}
+use Rattle.model.specs.Plan.{word, parameterCount, stateCount, stateAt, nodeCount, kindAt, afterNodes, transitionCountAt, transitionCount, conditionParameterAt, conditionParameter, operator, targetState}
 use Rattle.model.specs.Check.{wordIs, within, used, checkNode, checkTransition, checkState}
 use Rattle.model.specs.Laws.Answers.{then-accepted}
 use Rattle.model.specs.Laws.Tests.{word-true, within-low, within-high}
 use Rattle.model.specs.Laws.State.{few-nodes, few-transitions}
-use Rattle.model.specs.Laws.Trees.{clip-nodes-divided}
+use Rattle.layout.proofs.Laws.{nodes-are, transitions-are}
 use Rattle.plan.specs.Parts.{Marks}
 use Rattle.plan.proofs.Laws.{stops, passed}
 
 -- ---- transition t of state s, whose words begin at `at`
-
-pub transition-place : (plan : List ℕ) (s from t : ℕ) → from ≡ conditionParameterAt plan s 0 → from + 3 * t ≡ conditionParameterAt plan s t
-unfolding conditionParameterAt
-transition-place plan s from t e = omega arith
 
 pub transition-words : (plan : List ℕ) (s t at : ℕ) → at ≡ conditionParameterAt plan s t
     → checkTransition plan s t ≡ wordIs plan 5 at (ltb (word plan at) (parameterCount plan)) then wordIs plan 5 (at + 1) (leb (word plan (at + 1)) 5) then wordIs plan 5 (at + 2) (ltb (word plan (at + 2)) (stateCount plan))
@@ -49,10 +44,6 @@ parts plan s at k place count = rw (count, place)
 
 pub count-stops : (plan : List ℕ) (s at : ℕ) → at ≡ stateAt plan s → (a : Answer) → values a ≡ wordIs plan 2 at (within 1 (word plan at) 31) → tagOf the-type a ≡ 1 → values a ≡ checkState plan s
 count-stops plan s at place a e t = stops _ _ _ t (stops _ _ _ t (stops _ _ _ t (stops _ _ _ t e))) ∙ sym (parts plan s at _ place refl)
-
-pub clip-node-first : (plan : List ℕ) (s n : ℕ) → n ≡ clipNodesBefore plan s → n ≡ clipNode plan s 0
-unfolding clipNode clipNodesAmong total
-clip-node-first plan s n e = omega arith
 
 -- K passed
 pub record Counted (plan : List ℕ) (s at k : ℕ) : Type 0 where
@@ -108,32 +99,12 @@ module _ {plan : List ℕ} {s at k : ℕ} (so-far : Tree plan s at k) where
       transitions-end b n =
           (rw count at n) ∙ sym (then-accepted _ _ (then-accepted _ _ (so-far .passes) ∙ passed _ _ q e)) ∙ sym (parts plan s at k (so-far .counted .place) (so-far .counted .count))
 
--- ---- from state s, which passed and has k nodes and t transitions, to the next
+-- ---- all states
 
-module _ (plan : List ℕ) (s at k t : ℕ) (place : at ≡ stateAt plan s) (nodes : k ≡ word plan at) (transitions : t ≡ word plan (at + 1 + 4 * k)) where
-  same-nodes : k ≡ nodeCount plan s
-  unfolding nodeCount
-  same-nodes = rw (nodes, place)
-
-  same-transitions : t ≡ transitionCount plan s
-  unfolding transitionCount transitionCountAt afterNodes
-  same-transitions = rw (transitions, nodes, place)
-
-  pub next-place : at + 1 + 4 * k + 1 + 3 * t ≡ stateAt plan (s + 1)
-  unfolding stateAt afterTransitions afterNodes
-  next-place = rw (add-one s, transitions, nodes, place)
-
-  pub next-transitions : (n : ℕ) → n ≡ transitionsBefore plan s → n + t ≡ transitionsBefore plan (s + 1)
-  unfolding transitionsBefore total
-  next-transitions n e = rw (add-one s, e, same-transitions)
-
-  module _ (passes : checkState plan s ≡ accepted) where
-    pub few : (k ≤ 31) × (t ≤ 16)
-    few = rw (same-nodes, same-transitions) (few-nodes plan s passes, few-transitions plan s passes)
-
-    pub next-clip-nodes : (n : ℕ) → n ≡ clipNodesBefore plan s → n + (k + 1) / 2 ≡ clipNodesBefore plan (s + 1)
-    unfolding clipNodesBefore total
-    next-clip-nodes n e = rw (add-one s, e, same-nodes, clip-nodes-divided plan s passes)
+-- k nodes and t transitions of one that passed are few
+pub few : (plan : List ℕ) (s at k t : ℕ) → at ≡ stateAt plan s → k ≡ word plan at → t ≡ word plan (at + 1 + 4 * k) → checkState plan s ≡ accepted → (k ≤ 31) × (t ≤ 16)
+few plan s at k t place nodes transitions ok =
+    rw (nodes-are plan s at k place nodes, transitions-are plan s at k place nodes t transitions) (few-nodes plan s ok, few-transitions plan s ok)
 
 -- the last state's end is that of all
 pub ends : (f : ℕ → ℕ) (x i n : ℕ) → x ≡ f i → i ≤ n → n ≤ i → x ≡ f n

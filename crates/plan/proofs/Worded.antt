@@ -6,8 +6,9 @@ use mathlib.Core.Path.{_≡_, refl, sym, _∙_}
 use mathlib.Core.List.{List}
 use denote.Enum.Declared.{tagOf}
 use Rattle.model.proofs.Answer.{the-type}
+use Rattle.model.proofs.Tags.{never}
 use Rattle.model.specs.Answers.{Verdict, accepted, refused, values, _then_}
-use Rattle.model.specs.Plan.{maxTransitions, jointCount, clipCount, stateCount, transitionCount, transitionsBefore, samplesBefore, posesAt, numbersLength}
+use Rattle.model.specs.Plan.{maxTransitions, stateCount, transitionCount, transitionsBefore, samplesBefore, posesAt, numbersLength}
 use Rattle.model.specs.Check.{checkHeader, check}
 use Rattle.model.specs.Laws.Answers.{then-left, then-right, then-accepted, then-refused, each-at}
 use Rattle.model.specs.Laws.State.{few-transitions}
@@ -20,7 +21,6 @@ use Rattle.plan.specs.declared.Checked.{Checked}
 use Rattle.plan.specs.declared.Checked.the-variants.{Refused}
 use Rattle.plan.specs.Checked.{verdict, layoutIn, PlanChecked}
 use Rattle.plan.specs.Parts.{checkWords, WordsChecked, Worded, LengthsChecked}
-use Rattle.plan.proofs.Laws.{never}
 
 module _ (plan : List ℕ) (ok : Worded plan) where
   header-passed : checkHeader plan ≡ accepted

@@ -2,35 +2,28 @@
 use Prim.Native.Nat.{ℕ, suc, _+_, _-_, _≤_, _<_}
 use native.Mathlib.Numerals.{add-one}
 use native.Mathlib.Omega.{arith}
-use mathlib.Core.Path.{_≡_, refl, ap, _∙_}
+use mathlib.Core.Path.{_≡_, ap, _∙_}
 use mathlib.Core.Bool.{true, false, cond}
 use mathlib.Core.List.{List}
 use lib.Ieee.{Float}
-use denote.Enum.Declared.{tagOf}
 use Rattle.model.specs.declared.Transition.{Transition}
 use Rattle.model.specs.declared.Transition.the-variants.{Idle, Running}
 use Rattle.model.specs.Plan.{transitionCount}
 use Rattle.model.specs.Controller.{conditionHolds, begun, firstPassing, isEnded, stepFrom}
 use Rattle.model.specs.Laws.State.{condition-below}
 use Rattle.model.specs.Laws.Passed.{few-parameters}
-use Rattle.model.proofs.Transition.{the-type}
 use Rattle.layout.specs.declared.StateLayout.{StateLayout}
 use Rattle.layout.specs.declared.Condition.{Condition}
-use Rattle.layout.specs.Layout.{Passes, InPlan, stateLayout, conditionOf}
-use Rattle.layout.proofs.Laws.{state-ok}
+use Rattle.layout.specs.Layout.{Passes, InPlan, conditionOf}
+use Rattle.layout.proofs.Laws.{here-ok, transitions-counted}
 use Rattle.transitions.specs.Step.{StepMade}
 
-module _ (plan : List ℕ) (here : StateLayout) (inside : InPlan plan here) where
-  pub transitions-counted : here .transitions ≡ transitionCount plan (here .state)
-  unfolding stateLayout
-  transitions-counted = ap (λ h. h .transitions) (inside .place)
-
-  -- the parameter that a condition names is one of the player's
-  pub parameter-there : Passes plan → (t : ℕ) → t < here .transitions → (n : Condition) → n ≡ conditionOf plan (here .state) t → n .parameter < 32
-  unfolding conditionOf
-  parameter-there ok t h n e =
-      rw e
-      (omega (arith, condition-below plan (here .state) (state-ok plan ok (here .state) (inside .below)) t (omega (arith, transitions-counted)), few-parameters plan (ok .numbers) (ok .passed)))
+-- the parameter that a condition names is one of the player's
+pub parameter-there : {plan : List ℕ} {here : StateLayout} {t : ℕ} {n : Condition} → Passes plan → InPlan plan here → t < here .transitions → n ≡ conditionOf plan (here .state) t → n .parameter < 32
+unfolding conditionOf
+parameter-there {plan} {here} {t} ok inside h e =
+    rw e
+    (omega (arith, condition-below plan (here .state) (here-ok inside ok) t (omega (arith, transitions-counted inside)), few-parameters plan (ok .numbers) (ok .passed)))
 
 -- ---- the search, at transition t of n
 
@@ -44,10 +37,6 @@ module _ (plan : List ℕ) (numbers parameters : List Float) (instant : Float) (
   none-left h = let e : n - t ≡ 0 = omega arith in rw e
 
 -- ---- step 1
-
-pub told-idle : (x : Transition) → tagOf the-type x ≡ 0 → x ≡ Idle
-told-idle Idle h = refl
-told-idle (Running start target duration) h = absurd (omega (arith, h))
 
 module _ (plan : List ℕ) (numbers : List Float) (s : ℕ) (x : Transition) (parameters : List Float) (instant : Float) where
   pub searched : (found : Transition) → x ≡ Idle → found ≡ firstPassing plan numbers parameters instant s 0 (transitionCount plan s) → StepMade plan numbers s x parameters instant (record { state = s; transition = found })

@@ -3,8 +3,9 @@ use borrow.Author.Needs.{needs}
 use native.Mathlib.Omega.{arith}
 use borrow.Author.Tests.{not-true, not-false}
 use Rattle.model.specs.Laws.Passed.{few-joints}
+use Rattle.layout.proofs.Laws.{joints-found}
 use Rattle.blend_tree.specs.Blocks.{Playable}
-use Rattle.controller.proofs.Frames.{playable, joints-are, frame-handed, state-refuses, in-range, target-refuses, target-below, output-fits, output-refuses, nothing-refuses, frame-refused, frame-accepted}
+use Rattle.controller.proofs.Frames.{playable, frame-handed, state-refuses, in-range, target-refuses, target-below, output-fits, output-refuses, nothing-refuses, frame-refused, frame-accepted}
 use Rattle.controller.proofs.frame.Statement.{statement}
 use Rattle.controller.proofs.frame.Tie as tie
 
@@ -31,7 +32,7 @@ returns-3 c =
 output-at-requires : tie.Need-output-at-requires
 output-at-requires c κs =
     let ok = known (c .before .before .before .before .before .before) in
-    omega (arith, joints-are ok, few-joints _ _ (ok .passed))
+    omega (arith, joints-found _ (ok .found), few-joints _ _ (ok .passed))
 
 returns-4 : tie.Need-returns-4
 returns-4 c =

@@ -1,5 +1,4 @@
 -- `controller::layout_of` meets its contract: the layout at hand is that of its own state. Assumes nothing.
-use borrow.Author.Needs.{needs}
 use mathlib.Core.Path.{sym, ap, _∙_}
 use Rattle.layout.specs.Layout.{stateLayout}
 use Rattle.controller.proofs.layout_of.Statement.{statement}

@@ -1,6 +1,5 @@
 -- `controller::page_frame` meets its contract: it is a frame, and its matrices are then made page matrices. Assumes nothing.
 use borrow.Author.Needs.{needs}
-use mathlib.Core.Path.{sym, _∙_}
 use Rattle.model.specs.Plan.{jointCount}
 use Rattle.controller.proofs.Frames.{page-refused, page-joints, page-fits, page-accepted}
 use Rattle.controller.proofs.page_frame.Statement.{statement}

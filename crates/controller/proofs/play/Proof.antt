@@ -1,8 +1,9 @@
 -- `controller::play` meets its contract: the step's player is the one that is shown. Assumes nothing.
 use borrow.Author.Needs.{needs}
-use mathlib.Core.Path.{sym, _∙_}
 use Rattle.model.specs.Controller.{nowAt, elapsed}
-use Rattle.controller.proofs.Frames.{passes, in-plan, still-below, still-target, played, drawn}
+use Rattle.layout.proofs.Laws.{in-plan}
+use Rattle.blend_tree.proofs.NodeLaws.{passes}
+use Rattle.controller.proofs.Frames.{still-below, still-target, played, drawn}
 use Rattle.controller.proofs.play.Statement.{statement}
 use Rattle.controller.proofs.play.Tie as tie
 
@@ -15,14 +16,14 @@ step-requires : tie.Need-step-requires
 step-requires c κs =
     let l = c .before in
     let s = l .before .before .before .before .before .before .before in
-    (passes (s .pre .0), in-plan _ _ _ (l .state-layout .ensures) (s .pre .1))
+    (passes (s .pre .0), in-plan _ _ (l .state-layout .ensures) (s .pre .1))
 
 layout-of-requires : tie.Need-layout-of-requires
 unfolding nowAt
 layout-of-requires c κs =
     let l = c .before .before in
     let s = l .before .before .before .before .before .before .before in
-    (passes (s .pre .0), s .pre .0 .found, in-plan _ _ _ (l .state-layout .ensures) (s .pre .1), still-below _ _ (s .args .player) _ _ _ (l .state-layout .ensures) (c .step .ensures) (s .pre .0 .passed) (s .pre .1) (s .pre .2))
+    (passes (s .pre .0), s .pre .0 .found, in-plan _ _ (l .state-layout .ensures) (s .pre .1), still-below _ _ (s .args .player) _ _ _ (l .state-layout .ensures) (c .step .ensures) (s .pre .0 .passed) (s .pre .1) (s .pre .2))
 
 show-requires : tie.Need-show-requires
 unfolding nowAt
@@ -33,7 +34,7 @@ show-requires c κs =
     let s = l .before .before .before .before .before .before .before in
     let below = still-below _ _ (s .args .player) _ _ _ (l .state-layout .ensures) (t .step .ensures) (s .pre .0 .passed) (s .pre .1) (s .pre .2) in
     let target = still-target _ _ (s .args .player) _ _ _ (l .state-layout .ensures) (t .step .ensures) (s .pre .0 .passed) (s .pre .1) (s .pre .2) in
-    (s .pre .0, in-plan _ _ _ (h .layout-of .ensures) below, target, s .pre .3)
+    (s .pre .0, in-plan _ _ (h .layout-of .ensures) below, target, s .pre .3)
 
 returns : tie.Need-returns
 unfolding nowAt elapsed

@@ -1,7 +1,6 @@
 -- `controller::set` meets its contract: either number is on its side of the limit. Assumes nothing.
 use borrow.Author.Needs.{needs}
 use borrow.Author.Tests.{le-ltb, lt-ltb}
-use mathlib.Core.Path.{refl}
 use Rattle.model.specs.Answers.{values, require, unlessRefused}
 use Rattle.controller.proofs.set.Statement.{statement}
 use Rattle.controller.proofs.set.Tie as tie

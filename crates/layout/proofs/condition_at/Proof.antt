@@ -4,7 +4,7 @@ use native.Mathlib.Omega.{arith}
 use lib.ListN.{length}
 use Rattle.model.specs.Plan.{word, conditionParameter, operator, targetState}
 use Rattle.layout.specs.Layout.{conditionOf}
-use Rattle.layout.proofs.Laws.{condition-place, condition-read}
+use Rattle.layout.proofs.Laws.{condition-found, condition-read}
 use Rattle.layout.proofs.condition_at.Statement.{statement}
 use Rattle.layout.proofs.condition_at.Tie as tie
 
@@ -12,11 +12,11 @@ abbrev at : tie.Start → ℕ
 at c = c .args .here .«transitions_at» + 3 * c .args .t
 
 there : (c : tie.Start) → at c + 2 < length (c .args .plan .now)
-there c = condition-read _ _ (c .pre .1) (c .pre .0) _ (c .pre .2)
+there c = condition-read (c .pre .1) (c .pre .0) _ (c .pre .2)
 
 returns : tie.Need-returns
 unfolding word conditionParameter operator targetState conditionOf
-returns c = let s = c .before .before .before .before in rw (condition-place _ _ (s .pre .1) (s .args .t))
+returns c = let s = c .before .before .before .before in rw (condition-found (s .pre .1) (s .args .t))
 
 pub condition-at-spec : {M : Type 1} → statement M
 condition-at-spec =

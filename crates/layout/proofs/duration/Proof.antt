@@ -6,18 +6,18 @@ use native.Mathlib.Omega.{arith}
 use lib.Ieee.{nan}
 use lib.ListN.{getD}
 use Rattle.model.specs.Plan.{number}
-use Rattle.layout.proofs.Laws.{duration-place, value-read}
+use Rattle.layout.proofs.Laws.{duration-found, value-read}
 use Rattle.layout.proofs.duration.Statement.{statement}
 use Rattle.layout.proofs.duration.Tie as tie
 
 small : (c : tie.Start) → c .args .here .«values_at» + 2 * c .args .t < 1000
-small c = value-read _ _ (c .pre .1) (c .pre .0) _ (c .pre .2)
+small c = value-read (c .pre .1) (c .pre .0) _ (c .pre .2)
 
 returns : tie.Need-returns
 unfolding number
 returns c =
     let s = c .before .before .before .before in
-    c .number .ensures ∙ ap (λ i. getD (s .args .numbers .now) i nan) (duration-place _ _ (s .pre .1) (s .args .t))
+    c .number .ensures ∙ ap (λ i. getD (s .args .numbers .now) i nan) (duration-found (s .pre .1) (s .args .t))
 
 pub duration-spec : {M : Type 1} → statement M
 duration-spec =

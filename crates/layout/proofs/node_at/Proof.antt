@@ -4,7 +4,7 @@ use native.Mathlib.Omega.{arith}
 use lib.ListN.{length}
 use Rattle.model.specs.Plan.{word, kind, inputA, inputB, nodeParameter}
 use Rattle.layout.specs.Layout.{nodeOf}
-use Rattle.layout.proofs.Laws.{node-place, node-read}
+use Rattle.layout.proofs.Laws.{node-found, node-read}
 use Rattle.layout.proofs.node_at.Statement.{statement}
 use Rattle.layout.proofs.node_at.Tie as tie
 
@@ -12,11 +12,11 @@ abbrev at : tie.Start → ℕ
 at c = c .args .here .«nodes_at» + 4 * c .args .i
 
 there : (c : tie.Start) → at c + 3 < length (c .args .plan .now)
-there c = node-read _ _ (c .pre .1) (c .pre .0) _ (c .pre .2)
+there c = node-read (c .pre .1) (c .pre .0) _ (c .pre .2)
 
 returns : tie.Need-returns
 unfolding word kind inputA inputB nodeParameter nodeOf
-returns c = let s = c .before .before .before .before .before in rw (node-place _ _ (s .pre .1) (s .args .i))
+returns c = let s = c .before .before .before .before .before in rw (node-found (s .pre .1) (s .args .i))
 
 pub node-at-spec : {M : Type 1} → statement M
 node-at-spec =

@@ -9,14 +9,14 @@ use Rattle.layout.proofs.sample_count.Statement.{statement}
 use Rattle.layout.proofs.sample_count.Tie as tie
 
 there : (c : tie.Start) → 5 + c .args .layout .joints + c .args .c < length (c .args .plan .now)
-there c = sample-count-read _ _ (c .pre .0) (c .pre .1) _ (c .pre .2)
+there c = sample-count-read _ (c .pre .1) (c .pre .0) _ (c .pre .2)
 
 cast-result : tie.Need-cast-result
 cast-result c = let s = c .before .before in omega (arith, c .shared-slice-known .given (5 + s .args .layout .joints + s .args .c))
 
 returns : tie.Need-returns
 unfolding word sampleCount
-returns c = let s = c .before .before in ap (word (s .args .plan .now)) (sample-count-place _ _ (s .pre .0) (s .pre .1) (s .args .c))
+returns c = let s = c .before .before in ap (word (s .args .plan .now)) (sample-count-place _ (s .pre .1) (s .args .c))
 
 pub sample-count-spec : {M : Type 1} → statement M
 sample-count-spec =

@@ -5,9 +5,9 @@ use mathlib.Core.Path.{_≡_, refl, ap}
 use native.Mathlib.Nat.{div-le-self}
 use native.Mathlib.Omega.{arith}
 use lib.ListN.{length, getD}
-use Rattle.model.specs.Plan.{stateCount, stateAt, total, clipNodesBefore, transitionsBefore, numberAt, Value}
+use Rattle.model.specs.Plan.{word, stateCount, stateAt, total, clipNodesBefore, transitionsBefore, numberAt, Value}
 use Rattle.layout.specs.Layout.{layoutOf}
-use Rattle.layout.proofs.Laws.{counts-read, clips-small, values-small, state-next, values-next, clips-next, state-found}
+use Rattle.layout.proofs.Laws.{state-ok, counts-read, clips-small, values-small, state-next, values-next, clips-next, state-found}
 use Rattle.layout.proofs.state_layout.Statement.{statement}
 use Rattle.layout.proofs.state_layout.Tie as tie
 
@@ -23,10 +23,11 @@ abbrev counted : tie.At-loop Inv-loop μ-loop → ℕ
 counted c = let at = c .loop .at in at + 1 + 4 * getD (c .before .args .plan .now) at 0
 
 known : (c : tie.At-loop Inv-loop μ-loop) → (counted c < length (c .before .args .plan .now)) × (c .loop .values-at < 1000) × (c .loop .clip-node < 1000)
+unfolding word
 known c =
     let ok = c .before .pre .0 in
     let below : c .loop .s < stateCount (c .before .args .plan .now) = omega arith in
-    (counts-read _ _ _ (c .loop .inv .0) ok below, omega (arith, values-small _ ok _ below), omega (arith, clips-small _ ok _ below))
+    (counts-read _ _ _ _ (c .loop .inv .0) refl (state-ok _ ok _ below), omega (arith, values-small _ ok _ below), omega (arith, clips-small _ ok _ below))
 
 loop-holds : tie.Need-loop-holds Inv-loop μ-loop
 unfolding transitionsBefore total clipNodesBefore numberAt layoutOf
@@ -35,18 +36,20 @@ loop-holds c =
     (ap (λ l. l .«states_at») e, omega (arith, ap (λ l. l .clips) e), refl, omega arith)
 
 loop-again : tie.Need-loop-again Inv-loop μ-loop
+unfolding word
 loop-again c =
     let l = c .before .before .before in
     let e = l .loop .inv .0 in
     let ok = l .before .pre .0 in
     let below : l .loop .s < stateCount (l .before .args .plan .now) = omega arith in
-    (state-next _ _ _ e, values-next _ _ _ e _ (l .loop .inv .1), clips-next _ _ _ e ok below _ (l .loop .inv .2), omega arith)
+    (state-next _ _ _ _ e refl _ refl, values-next _ _ _ _ e refl _ refl _ (l .loop .inv .1), clips-next _ _ _ _ e refl (state-ok _ ok _ below) _ (l .loop .inv .2), omega arith)
 
 returns : tie.Need-returns Inv-loop μ-loop
+unfolding word
 returns c =
     let l = c .before .before .before in
     let last : l .loop .s ≡ l .before .args .state = omega arith in
-    rw last at (state-found _ _ _ (l .loop .inv .0) _ _ (l .loop .inv .1) (l .loop .inv .2))
+    rw last at (state-found _ _ _ _ (l .loop .inv .0) refl _ refl _ _ (l .loop .inv .1) (l .loop .inv .2))
 
 pub state-layout-spec : {M : Type 1} → statement M
 state-layout-spec =

@@ -1,11 +1,25 @@
--- From `clipNode` one can tell the state, and it is below the count of all.
-use Prim.Native.Nat.{ℕ, _<_}
+-- Clip nodes are numbered in a row. From `clipNode` one can tell the state, and it is below the count of all.
+use Prim.Native.Nat.{ℕ, suc, _+_, _<_}
 use native.Mathlib.Omega.{arith}
 use mathlib.Core.Path.{_≡_}
-use mathlib.Core.Bool.{true, cond}
+use mathlib.Core.Bool.{true, false, cond}
 use mathlib.Core.List.{List}
-use Rattle.model.specs.Plan.{nodeCount, isClip, clipNodesAmong, clipNodesBefore, clipNode}
+use Rattle.model.specs.Plan.{nodeCount, isClip, total, clipNodesAmong, clipNodesBefore, clipNode}
 use Rattle.model.specs.Laws.Totals.{total-below, same-row}
+
+module _ (plan : List ℕ) (s : ℕ) where
+  -- a state's count begins where that of the states before it ends
+  pub first-clip-node : clipNodesBefore plan s ≡ clipNode plan s 0
+  unfolding clipNode clipNodesAmong total
+  first-clip-node = omega arith
+
+  pub clip-counts : (i : ℕ) → isClip plan s i ≡ true → clipNode plan s i + 1 ≡ clipNode plan s (suc i)
+  unfolding clipNode clipNodesAmong total
+  clip-counts i e = rw e (omega arith)
+
+  pub blend-counts-not : (i : ℕ) → isClip plan s i ≡ false → clipNode plan s i ≡ clipNode plan s (suc i)
+  unfolding clipNode clipNodesAmong total
+  blend-counts-not i e = rw e (omega arith)
 
 module _ (plan : List ℕ) where
   -- within a state

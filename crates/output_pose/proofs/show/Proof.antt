@@ -1,6 +1,7 @@
 -- `output_pose::show` meets its contract: either case of the transition is the definition's, call by call. Assumes nothing.
 use borrow.Author.Needs.{needs}
-use Rattle.output_pose.proofs.Laws.{is-idle, target-below, shown-idle, shown-running}
+use Rattle.model.proofs.Tags.{is-idle}
+use Rattle.output_pose.proofs.Laws.{target-below, shown-idle, shown-running}
 use Rattle.output_pose.proofs.show.Statement.{statement}
 use Rattle.output_pose.proofs.show.Tie as tie
 

@@ -6,8 +6,9 @@ use mathlib.Core.Path.{_≡_, refl, _∙_}
 use lib.ListN.{length}
 use Rattle.model.specs.Pose.{lerp}
 use Rattle.model.specs.Tree.{statePose}
+use Rattle.layout.proofs.Laws.{joints-found}
 use Rattle.skeleton.specs.Buffer.{jointsWritten}
-use Rattle.output_pose.proofs.Laws.{joints-found, in-block, room, blended, none-written, all-written}
+use Rattle.output_pose.proofs.Laws.{in-block, room, blended, none-written, all-written}
 use Rattle.output_pose.proofs.show_blend.Statement.{statement}
 use Rattle.output_pose.proofs.show_blend.Tie as tie
 
@@ -29,14 +30,14 @@ state-poses-requires : tie.Need-state-poses-requires Inv-loop μ-loop
 state-poses-requires c κs =
     let s = c .before .before .before .before .before .before .before .before in
     let e = c .before .block-length .ensures in
-    (s .pre .0, s .pre .1, s .pre .3, in-block _ _ _ (s .pre .0) _ _ (e .1) (e .2))
+    (s .pre .0, s .pre .1, s .pre .3, in-block (s .pre .0) _ _ (e .1) (e .2))
 
 state-poses-requires-2 : tie.Need-state-poses-requires-2 Inv-loop μ-loop
 state-poses-requires-2 c κs =
     let b = c .before .before .before in
     let s = b .before .before .before .before .before .before .before in
     let e = b .block-length .ensures in
-    (s .pre .0, s .pre .2, s .pre .4, in-block _ _ _ (s .pre .0) _ _ (e .1) (e .2))
+    (s .pre .0, s .pre .2, s .pre .4, in-block (s .pre .0) _ _ (e .1) (e .2))
 
 calculate-global-poses-requires : tie.Need-calculate-global-poses-requires Inv-loop μ-loop
 calculate-global-poses-requires c κs =
@@ -44,7 +45,7 @@ calculate-global-poses-requires c κs =
     let l = b .before .before .before in
     let s = l .before .before .before .before in
     let e = b .block-length .ensures in
-    room _ _ _ (s .pre .0) _ _ (l .loop .output) (s .args .output .now) (e .1) (e .2) (l .loop .inv .1) (s .pre .5)
+    room (s .pre .0) _ _ (l .loop .output) (s .args .output .now) (e .1) (e .2) (l .loop .inv .1) (s .pre .5)
 
 loop-again : tie.Need-loop-again Inv-loop μ-loop
 loop-again c =
@@ -63,7 +64,7 @@ returns : tie.Need-returns Inv-loop μ-loop
 returns c =
     let l = c .before .before in
     let s = l .before .before .before .before in
-    all-written _ _ _ (l .loop .first) _ (omega (arith, joints-found _ _ _ (s .pre .0))) (l .loop .inv .0)
+    all-written _ _ _ (l .loop .first) _ (omega (arith, joints-found _ (s .pre .0 .found))) (l .loop .inv .0)
 
 pub show-blend-spec : {M : Type 1} → statement M
 show-blend-spec =

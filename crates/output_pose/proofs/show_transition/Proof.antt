@@ -1,23 +1,25 @@
 -- `output_pose::show_transition` meets its contract: the target is synchronised on top of the current instances. Assumes nothing.
 use borrow.Author.Needs.{needs}
-use Rattle.output_pose.proofs.Laws.{passes, in-plan, blended-to}
+use Rattle.layout.proofs.Laws.{in-plan}
+use Rattle.blend_tree.proofs.NodeLaws.{passes}
+use Rattle.output_pose.proofs.Laws.{blended-to}
 use Rattle.output_pose.proofs.show_transition.Statement.{statement}
 use Rattle.output_pose.proofs.show_transition.Tie as tie
 
 state-layout-requires : tie.Need-state-layout-requires
-state-layout-requires c κs = let s = c .before .before .before .before in (passes _ _ _ (s .pre .0), s .pre .0 .found, s .pre .3)
+state-layout-requires c κs = let s = c .before .before .before .before in (passes (s .pre .0), s .pre .0 .found, s .pre .3)
 
 synchronize-state-requires : tie.Need-synchronize-state-requires
 synchronize-state-requires c κs =
     let s = c .before .before .before .before .before .before in
-    (s .pre .0, in-plan _ _ _ (s .pre .3) (c .before .state-layout .ensures))
+    (s .pre .0, in-plan _ _ (c .before .state-layout .ensures) (s .pre .3))
 
 show-blend-requires : tie.Need-show-blend-requires
 show-blend-requires c κs =
     let y = c .before .before .before .before in
     let l = y .before .before in
     let s = l .before .before .before .before .before in
-    (s .pre .0, s .pre .1, in-plan _ _ _ (s .pre .3) (l .state-layout .ensures), s .pre .2, y .synchronize-state .ensures .0, s .pre .4)
+    (s .pre .0, s .pre .1, in-plan _ _ (l .state-layout .ensures) (s .pre .3), s .pre .2, y .synchronize-state .ensures .0, s .pre .4)
 
 returns : tie.Need-returns
 returns c =

@@ -1,11 +1,9 @@
 -- `plan::check_lengths` meets its contract: both tests of the definition; the counts are small, so nothing overflows. Assumes nothing.
-use borrow.Author.Needs.{needs}
 use borrow.Author.Tests.{lt-leb, le-leb, eq-eqb, ne-eqb}
 use native.Mathlib.Omega.{arith}
-use mathlib.Core.Path.{refl, ap}
+use mathlib.Core.Path.{refl}
 use Rattle.model.specs.Answers.{_then_, require}
-use Rattle.layout.specs.declared.Layout.{Layout}
-use Rattle.layout.specs.Layout.{layoutOf}
+use Rattle.layout.proofs.Laws.{joints-found}
 use Rattle.plan.specs.Checked.{verdict, layoutIn}
 use Rattle.plan.proofs.Worded.{layout-small, product-small, numbers-counted}
 use Rattle.plan.proofs.check_lengths.Statement.{statement}
@@ -16,10 +14,9 @@ unfolding verdict layoutIn _then_ require
 returns c = record { answer = rw (← c .before .before .pre .1, lt-leb _ _ (c .if1 .taken)); layout = refl }
 
 samples-before-requires : tie.Need-samples-before-requires
-unfolding layoutOf
 samples-before-requires c κs =
     let small = layout-small _ (c .before .before .before .pre .0) _ (c .laid-out .ensures) in
-    (ap (λ (l : Layout). l .joints) (c .laid-out .ensures), omega arith, omega arith)
+    (joints-found _ (c .laid-out .ensures), omega arith, omega arith)
 
 mul-if2 : tie.Need-mul-if2
 mul-if2 c =

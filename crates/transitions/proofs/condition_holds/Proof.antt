@@ -8,7 +8,7 @@ use Rattle.transitions.proofs.condition_holds.Statement.{statement}
 use Rattle.transitions.proofs.condition_holds.Tie as tie
 
 there : (c : tie.After-condition-at) → c .condition-at .result .parameter < 32
-there c = let p = c .before .before .before .pre in parameter-there _ _ (p .1) (p .0) _ (p .2) _ (c .condition-at .ensures)
+there c = let p = c .before .before .before .pre in parameter-there (p .0) (p .1) (p .2) (c .condition-at .ensures)
 
 returns : tie.Need-returns
 unfolding conditionOf

@@ -4,7 +4,8 @@ use mathlib.Core.Path.{_≡_, sym, _∙_}
 use native.Mathlib.Nat.{sub-zero}
 use native.Mathlib.Omega.{arith}
 use Rattle.model.specs.Controller.{firstPassing}
-use Rattle.transitions.proofs.Laws.{transitions-counted, tries, none-left}
+use Rattle.layout.proofs.Laws.{transitions-counted}
+use Rattle.transitions.proofs.Laws.{tries, none-left}
 use Rattle.transitions.proofs.first_passing.Statement.{statement}
 use Rattle.transitions.proofs.first_passing.Tie as tie
 
@@ -35,14 +36,14 @@ loop-again c =
 returns : tie.Need-returns Inv-loop μ-loop
 returns c =
     let l = c .before .before in
-    sym (rw (← transitions-counted _ _ (l .before .before .before .pre .1)) (l .loop .inv .1 ∙ none-left _ _ _ _ _ _ _ (c .if1 .taken)))
+    sym (rw (← transitions-counted (l .before .before .before .pre .1)) (l .loop .inv .1 ∙ none-left _ _ _ _ _ _ _ (c .if1 .taken)))
 
 returns-2 : tie.Need-returns-2 Inv-loop μ-loop
 returns-2 c =
     let h = c .before .before in
     let l = h .before in
     sym
-    (rw (← transitions-counted _ _ (l .before .before .before .before .before .pre .1))
+    (rw (← transitions-counted (l .before .before .before .before .before .pre .1))
     (l .before .before .loop .inv .1 ∙ tries _ _ _ _ _ _ _ (l .if1 .left) ∙ rw (← h .condition-holds .ensures, c .before .if2 .taken, c .begun .ensures)))
 
 pub first-passing-spec : {M : Type 1} → statement M

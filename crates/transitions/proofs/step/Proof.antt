@@ -1,12 +1,13 @@
 -- `transitions::step` meets its contract: by what the player's transition is. Assumes nothing.
 use borrow.Author.Needs.{needs}
 use mathlib.Core.Path.{sym, _∙_}
-use Rattle.transitions.proofs.Laws.{told-idle, searched, ended, goes-on}
+use Rattle.model.proofs.Tags.{is-idle}
+use Rattle.transitions.proofs.Laws.{searched, ended, goes-on}
 use Rattle.transitions.proofs.step.Statement.{statement}
 use Rattle.transitions.proofs.step.Tie as tie
 
 returns : tie.Need-returns
-returns c = searched _ _ _ _ _ _ _ (told-idle _ (c .before .before .match .keys2)) (c .first-passing .ensures)
+returns c = searched _ _ _ _ _ _ _ (is-idle _ (c .before .before .match .keys2)) (c .first-passing .ensures)
 
 returns-2 : tie.Need-returns-2
 returns-2 c =

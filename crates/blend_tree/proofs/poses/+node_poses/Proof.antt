@@ -11,7 +11,8 @@ use Rattle.model.specs.Clips.{localTime, instanceAt}
 use Rattle.animation.proofs.instance_at.Reads as instance-at-reads
 use Rattle.animation.proofs.local_time.Reads as local-time-reads
 use Rattle.layout.proofs.node_at.Reads as node-at-reads
-use Rattle.blend_tree.proofs.PoseLaws.{NodeRead, node-small, clip-inside, slot-found, slot-small, inputs-before, parameter-small, of-clip, of-inputs}
+use Rattle.blend_tree.proofs.NodeLaws.{passes, node-small, slot-found, slot-small, NodeRead, is-clip, no-clip, clip-inside, inputs-before, parameter-small}
+use Rattle.blend_tree.proofs.PoseLaws.{of-clip, of-inputs}
 use Rattle.blend_tree.proofs.poses.additive_all.Reads as additive-all-reads
 use Rattle.blend_tree.proofs.poses.clip_poses.Reads as clip-poses-reads
 use Rattle.blend_tree.proofs.poses.lerp_all.Reads as lerp-all-reads
@@ -54,22 +55,26 @@ module _ (t : ℕ) where
   start c = c .before .before .before
 
   read : (c : lts.After-node-at (claims t) (node-poses-at t) reads.Post)
-      → let a = start c .args in NodeRead (a .plan .now) (a .numbers .now) (a .layout) (a .here) (a .node) (c .node-at .result)
+      → let a = start c .args in NodeRead (a .plan .now) (a .here) (a .node) (c .node-at .result)
   read c =
       let r = start c .pre .1 in
-      record { playable = r .0; state = r .1; below = r .4; found = c .node-at .ensures }
+      record { passes = passes (r .0); state = r .1; below = r .4; found = c .node-at .ensures }
+
+  small : (c : lts.After-node-at (claims t) (node-poses-at t) reads.Post) → start c .args .node < 32
+  small c = let r = start c .pre .1 in node-small (passes (r .0)) (r .1) (r .4)
 
   instance-at-requires : lts.Need-instance-at-requires (claims t) (node-poses-at t) reads.Post
   instance-at-requires c κs =
       let k = c .before .before .before in
-      slot-small (read k) (start k .pre .1 .2) (c .before .if1 .taken)
+      let r = start k .pre .1 in
+      slot-small (passes (r .0)) (r .1) (r .4) (r .2) (is-clip _ _ _ (k .node-at .ensures) (c .before .if1 .taken))
 
   clip-poses-requires : lts.Need-clip-poses-requires (claims t) (node-poses-at t) reads.Post
   clip-poses-requires c κs =
       let i = c .before .before .before .before in
       let k = i .before .before in
       let r = start k .pre .1 in
-      (r .0, r .3, clip-inside (read k) (i .if1 .taken))
+      (r .0, r .3, clip-inside (read k) (is-clip _ _ _ (k .node-at .ensures) (i .if1 .taken)))
 
   returns : lts.Need-returns (claims t) (node-poses-at t) reads.Post
   returns c j h =
@@ -77,14 +82,14 @@ module _ (t : ℕ) where
       let k = i .before .before in
       let s = start k in
       c .clip-poses .ensures j h
-      ∙ of-clip (read k) (s .args .parameters .now) (s .args .time) (s .args .instances .now) (s .args .first + j) _ (i .if1 .taken)
-      (c .before .before .local-time .ensures ∙ ap (λ n. localTime n (s .args .time)) (c .before .before .before .instance-at .ensures ∙ ap (instanceAt (s .args .instances .now)) (slot-found (read k) (s .pre .1 .2))))
+      ∙ of-clip (read k) (s .args .numbers .now) (s .args .parameters .now) (s .args .time) (s .args .instances .now) (s .args .first + j) _ (i .if1 .taken)
+      (c .before .before .local-time .ensures ∙ ap (λ n. localTime n (s .args .time)) (c .before .before .before .instance-at .ensures ∙ ap (instanceAt (s .args .instances .now)) (slot-found (passes (s .pre .1 .0)) (s .pre .1 .1) (s .pre .1 .4) (s .pre .1 .2))))
 
   node-poses-requires : lts.Need-node-poses-requires (claims t) (node-poses-at t) reads.Post
   node-poses-requires c κs =
       let k = c .before .before .before in
       let r = start k .pre .1 in
-      let less = inputs-before (read k) (c .before .if1 .left) in
+      let less = inputs-before (read k) (no-clip _ _ _ (k .node-at .ensures) (c .before .if1 .left)) in
       (omega (arith, less, start k .pre .0), (r .0, r .1, r .2, r .3, omega (arith, less, r .4)))
 
   node-poses-requires-2 : lts.Need-node-poses-requires-2 (claims t) (node-poses-at t) reads.Post
@@ -92,14 +97,15 @@ module _ (t : ℕ) where
       let e = c .before .before .before in
       let k = e .before .before in
       let r = start k .pre .1 in
-      let less = inputs-before (read k) (e .if1 .left) in
+      let less = inputs-before (read k) (no-clip _ _ _ (k .node-at .ensures) (e .if1 .left)) in
       (omega (arith, less, start k .pre .0), (r .0, r .1, r .2, r .3, omega (arith, less, r .4)))
 
   -- the parameter, after both inputs
   parameter-known : (c : lts.After-node-poses2 (claims t) (node-poses-at t) reads.Post) → c .before .before .before .before .before .before .node-at .result .parameter < 32
   parameter-known c =
       let e = c .before .before .before .before in
-      parameter-small (read (e .before .before)) (e .if1 .left)
+      let r = read (e .before .before) in
+      parameter-small r (no-clip _ _ _ (r .found) (e .if1 .left))
 
   returns-2 : lts.Need-returns-2 (claims t) (node-poses-at t) reads.Post
   returns-2 c j h =
@@ -109,7 +115,7 @@ module _ (t : ℕ) where
       let k = a .before .before .before .before in
       let s = start k in
       c .lerp-all .ensures j h
-      ∙ (rw (eq-eqb (k .node-at .result .kind) 1 (i .if2 .taken)) at (of-inputs (read k) (s .args .parameters .now) (s .args .time) (s .args .instances .now) (s .args .first + j) (a .before .before .if1 .left) (a .node-poses .ensures j h) (b .node-poses2 .ensures j h)))
+      ∙ (rw (eq-eqb (k .node-at .result .kind) 1 (i .if2 .taken)) at (of-inputs (read k) (s .args .numbers .now) (s .args .parameters .now) (s .args .time) (s .args .instances .now) (s .args .first + j) (a .before .before .if1 .left) (a .node-poses .ensures j h) (b .node-poses2 .ensures j h)))
 
   returns-3 : lts.Need-returns-3 (claims t) (node-poses-at t) reads.Post
   returns-3 c j h =
@@ -119,15 +125,15 @@ module _ (t : ℕ) where
       let k = a .before .before .before .before in
       let s = start k in
       c .additive-all .ensures j h
-      ∙ (rw (ne-eqb (k .node-at .result .kind) 1 (i .if2 .left)) at (of-inputs (read k) (s .args .parameters .now) (s .args .time) (s .args .instances .now) (s .args .first + j) (a .before .before .if1 .left) (a .node-poses .ensures j h) (b .node-poses2 .ensures j h)))
+      ∙ (rw (ne-eqb (k .node-at .result .kind) 1 (i .if2 .left)) at (of-inputs (read k) (s .args .numbers .now) (s .args .parameters .now) (s .args .time) (s .args .instances .now) (s .args .first + j) (a .before .before .if1 .left) (a .node-poses .ensures j h) (b .node-poses2 .ensures j h)))
 
 pub +node-poses-spec : {M : Type 1} → statement M
 +node-poses-spec =
     close μ-node-poses
     (λ t. lts.spec (claims t) (node-poses-at t) reads.Post
     (λ c κs. search needs)
-    (λ c. omega (arith, node-small (read t (c .before .before))))
-    (λ c. omega (arith, node-small (read t (c .before .before))))
+    (λ c. omega (arith, small t (c .before .before)))
+    (λ c. small t (c .before .before))
     (instance-at-requires t)
     (λ c κs. search needs)
     (clip-poses-requires t)

@@ -6,7 +6,8 @@ use mathlib.Core.Path.{ap, _∙_}
 use lib.ListN.{length}
 use Rattle.model.specs.Numbers.{_*₃₂_}
 use Rattle.model.specs.Laws.Passed.{some-samples, few-joints, few-clips}
-use Rattle.blend_tree.proofs.PoseLaws.{Positioned, joints-found, places-small, both-inside, clip-pose}
+use Rattle.layout.proofs.Laws.{joints-found}
+use Rattle.blend_tree.proofs.PoseLaws.{Positioned, places-small, both-inside, clip-pose}
 use Rattle.blend_tree.proofs.poses.clip_poses.Statement.{statement}
 use Rattle.blend_tree.proofs.poses.clip_poses.Tie as tie
 
@@ -31,7 +32,7 @@ position-in-requires c κs =
 samples-before-requires : tie.Need-samples-before-requires
 samples-before-requires c κs =
     let s = c .before .before .before .before .before in
-    let found = joints-found (s .pre .0) in
+    let found = joints-found _ (s .pre .0 .found) in
     let n = length (s .args .numbers .now) in
     (found, omega (arith, few-joints _ n (s .pre .0 .passed)), omega (arith, few-clips _ n (s .pre .0 .passed)))
 

@@ -1,12 +1,14 @@
 -- `blend_tree::synchronize::clip_slots` meets its contract. Invariant: the slots below i are filled, and `next` is the clip node that comes at i. Assumes nothing.
 use borrow.Author.Count.{below-none}
 use Prim.Native.Nat.{ℕ, _+_, _-_, _≤_, _<_}
-use mathlib.Core.Path.{_≡_, refl}
+use mathlib.Core.Path.{_≡_, refl, _∙_}
 use native.Mathlib.Numerals.{add-one}
 use native.Mathlib.Omega.{arith}
 use lib.ListN.{length, getD, length-set}
 use Rattle.model.specs.Plan.{clipNode}
-use Rattle.blend_tree.proofs.SynchronizeLaws.{filled-more, nodes-few, clip-node-small, nodes-counted, first-clip-node}
+use Rattle.model.specs.Laws.ClipNodes.{first-clip-node}
+use Rattle.layout.proofs.Laws.{nodes-counted, clips-counted, clip-node-small, nodes-few}
+use Rattle.blend_tree.proofs.SynchronizeLaws.{filled-more}
 use Rattle.blend_tree.proofs.synchronize.clip_slots.Statement.{statement}
 use Rattle.blend_tree.proofs.synchronize.clip_slots.Tie as tie
 
@@ -20,10 +22,10 @@ abbrev μ-loop : tie.MeasureT-loop
 loop-holds : tie.Need-loop-holds Inv-loop μ-loop
 loop-holds c =
     let p = c .before .pre in
-    (omega arith, refl, first-clip-node _ _ (p .1), omega (arith, clip-node-small _ _ (p .1) (p .0)), below-none _)
+    (omega arith, refl, clips-counted (p .1) ∙ first-clip-node _ _, omega (arith, clip-node-small (p .1) (p .0)), below-none _)
 
 few : (c : tie.At-loop Inv-loop μ-loop) → c .before .before .args .here .nodes ≤ 31
-few c = let p = c .before .before .pre in nodes-few _ _ (p .1) (p .0)
+few c = let p = c .before .before .pre in nodes-few (p .1) (p .0)
 
 next-clip-node-requires : tie.Need-next-clip-node-requires Inv-loop μ-loop
 next-clip-node-requires c κs =
@@ -40,7 +42,7 @@ loop-again c =
 returns : tie.Need-returns Inv-loop μ-loop
 returns c =
     let l = c .before .before in
-    record { slot = λ i h. l .loop .inv .4 i (omega (arith, nodes-counted _ _ (l .before .before .pre .1))) }
+    record { slot = λ i h. l .loop .inv .4 i (omega (arith, nodes-counted (l .before .before .pre .1))) }
 
 pub clip-slots-spec : {M : Type 1} → statement M
 clip-slots-spec =

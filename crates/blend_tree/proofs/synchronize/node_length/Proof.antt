@@ -3,17 +3,20 @@ use borrow.Author.Needs.{needs}
 use Rattle.model.specs.Clips.{duration}
 use Rattle.model.specs.Tree.{nodeLength}
 use Rattle.layout.specs.Layout.{nodeOf}
-use Rattle.blend_tree.proofs.SynchronizeLaws.{passes, clip-there}
+use Rattle.blend_tree.proofs.NodeLaws.{passes, NodeRead, clip-inside}
 use Rattle.blend_tree.proofs.synchronize.node_length.Statement.{statement}
 use Rattle.blend_tree.proofs.synchronize.node_length.Tie as tie
 
 node-at-requires : tie.Need-node-at-requires
 node-at-requires c κs = let p = c .before .before .pre in (passes (p .0), p .1, p .2)
 
+read : (c : tie.After-node-at) → let a = c .before .before .before .args in NodeRead (a .plan .now) (a .here) (a .i) (c .node-at .result)
+read c = let p = c .before .before .before .pre in record { passes = passes (p .0); state = p .1; below = p .2; found = c .node-at .ensures }
+
 sample-count-requires : tie.Need-sample-count-requires
 sample-count-requires c κs =
     let p = c .before .before .before .pre in
-    (passes (p .0), p .0 .found, clip-there _ _ (p .1) (passes (p .0)) _ (p .2) _ (c .node-at .ensures) (p .3))
+    (passes (p .0), p .0 .found, clip-inside (read c) (p .3))
 
 returns : tie.Need-returns
 unfolding duration nodeLength nodeOf

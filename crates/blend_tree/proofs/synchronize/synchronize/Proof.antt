@@ -5,7 +5,7 @@ use native.Mathlib.Numerals.{add-one}
 use native.Mathlib.Omega.{arith}
 use Rattle.model.specs.Plan.{nodeCount}
 use Rattle.model.specs.Tree.{synchronizeNodes, synchronize}
-use Rattle.blend_tree.proofs.SynchronizeLaws.{nodes-counted}
+use Rattle.layout.proofs.Laws.{nodes-counted}
 use Rattle.blend_tree.proofs.synchronize.synchronize.Statement.{statement}
 use Rattle.blend_tree.proofs.synchronize.synchronize.Tie as tie
 
@@ -33,7 +33,7 @@ returns : tie.Need-returns Inv-loop μ-loop
 unfolding synchronize
 returns c =
     let l = c .before .before in
-    let last : l .loop .i ≡ nodeCount (l .before .before .before .args .plan .now) (l .before .before .before .args .here .state) = omega (arith, nodes-counted _ _ (l .before .before .before .pre .1)) in
+    let last : l .loop .i ≡ nodeCount (l .before .before .before .args .plan .now) (l .before .before .before .args .here .state) = omega (arith, nodes-counted (l .before .before .before .pre .1)) in
     rw last at (l .loop .inv .1)
 
 pub synchronize-spec : {M : Type 1} → statement M

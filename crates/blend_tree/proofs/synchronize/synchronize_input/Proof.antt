@@ -6,18 +6,18 @@ use native.Mathlib.Omega.{arith}
 use lib.ListN.{getD}
 use Rattle.model.specs.Plan.{clipNode}
 use Rattle.model.specs.Tree.{synchronizedRate, inputSynchronized}
-use Rattle.blend_tree.proofs.SynchronizeLaws.{nodes-few, instance-there, slot-there}
+use Rattle.blend_tree.proofs.NodeLaws.{node-small, slot-found, slot-small}
 use Rattle.blend_tree.proofs.synchronize.synchronize_input.Statement.{statement}
 use Rattle.blend_tree.proofs.synchronize.synchronize_input.Tie as tie
 
 small : (c : tie.Start) → c .args .i < 32
-small c = omega (arith, nodes-few _ _ (c .pre .1) (c .pre .0))
+small c = node-small (c .pre .0) (c .pre .1) (c .pre .3)
 
 slot : (c : tie.Start) → getD (c .args .slots .now) (c .args .i) 0 ≡ clipNode (c .args .plan .now) (c .args .here .state) (c .args .i)
-slot c = slot-there _ _ (c .pre .1) _ (c .pre .2) _ (c .pre .3)
+slot c = slot-found (c .pre .0) (c .pre .1) (c .pre .3) (c .pre .2)
 
 there : (c : tie.Start) → getD (c .args .slots .now) (c .args .i) 0 < 64
-there c = rw (slot c) (instance-there _ _ (c .pre .1) (c .pre .0) _ (c .pre .3) (c .pre .4))
+there c = slot-small (c .pre .0) (c .pre .1) (c .pre .3) (c .pre .2) (c .pre .4)
 
 returns : tie.Need-returns
 unfolding synchronizedRate inputSynchronized

@@ -7,7 +7,8 @@ use mathlib.Core.Bool.{true}
 use native.Mathlib.Omega.{arith}
 use Rattle.model.specs.Plan.{isClip}
 use Rattle.model.specs.Tree.{isTouched, synchronizeNode}
-use Rattle.blend_tree.proofs.SynchronizeLaws.{passes, touched-inputs, both-synchronized, a-there, b-there, parameter-there}
+use Rattle.blend_tree.proofs.NodeLaws.{passes, NodeRead, inputs-inside, parameter-small}
+use Rattle.blend_tree.proofs.SynchronizeLaws.{touched-inputs, both-synchronized}
 use Rattle.blend_tree.proofs.synchronize.synchronize_node.Statement.{statement}
 use Rattle.blend_tree.proofs.synchronize.synchronize_node.Tie as tie
 
@@ -21,10 +22,10 @@ known : (c : tie.After-node-at)
     (n .a < a .here .nodes) × (isClip (a .plan .now) (a .here .state) (n .a) ≡ true) × (n .b < a .here .nodes) × (isClip (a .plan .now) (a .here .state) (n .b) ≡ true) × (n .parameter < 32)
 known c =
     let p = c .before .before .before .before .before .pre in
-    let t = touched-inputs _ _ _ _ (c .node-at .ensures) (touched c) in
-    let ok = passes (p .0) in
     let e = c .node-at .ensures in
-    (a-there _ _ (p .1) ok _ (p .3) _ e (t .0), t .1, b-there _ _ (p .1) ok _ (p .3) _ e (t .0), t .2, parameter-there _ _ (p .1) ok _ (p .3) _ e (t .0))
+    let t = touched-inputs _ _ _ e (touched c) in
+    let r : NodeRead _ _ _ _ = record { passes = passes (p .0); state = p .1; below = p .3; found = e } in
+    (inputs-inside r (t .0) .0, t .1, inputs-inside r (t .0) .1, t .2, parameter-small r (t .0))
 
 is-touched-requires : tie.Need-is-touched-requires
 is-touched-requires c κs = let p = c .before .before .pre in (passes (p .0), p .1, p .3)
@@ -67,7 +68,7 @@ returns-2 c =
     let t = y .before .before in
     let b = t .before .before in
     let n = b .before .before in
-    both-synchronized _ _ _ _ (n .node-at .ensures) _ _ _ _ _ _ _ _ _ (touched n) (b .before .node-length .ensures) (b .node-length2 .ensures) (t .target-length .ensures) (y .synchronize-input .ensures) (c .synchronize-input2 .ensures)
+    both-synchronized _ _ _ (n .node-at .ensures) _ _ _ _ _ _ _ _ _ (touched n) (b .before .node-length .ensures) (b .node-length2 .ensures) (t .target-length .ensures) (y .synchronize-input .ensures) (c .synchronize-input2 .ensures)
 
 pub synchronize-node-spec : {M : Type 1} → statement M
 synchronize-node-spec =

@@ -7,9 +7,11 @@ use mathlib.Core.Path.{_≡_, refl}
 use Rattle.model.specs.Answers.{accepted, values, each}
 use Rattle.model.specs.Plan.{clipNode}
 use Rattle.model.specs.Check.{checkNode}
+use Rattle.model.proofs.Tags.{never}
+use Rattle.layout.proofs.Laws.{kind-place}
 use Rattle.plan.specs.Parts.{Marks}
-use Rattle.plan.proofs.Laws.{never, passed, each-goes, each-refuses, each-ends}
-use Rattle.plan.proofs.NodeLaws.{kind-place, marks-none, marks-all}
+use Rattle.plan.proofs.Laws.{passed, each-goes, each-refuses, each-ends}
+use Rattle.plan.proofs.NodeLaws.{marks-none, marks-all}
 use Rattle.plan.proofs.nodes.check_nodes.Statement.{statement}
 use Rattle.plan.proofs.nodes.check_nodes.Tie as tie
 

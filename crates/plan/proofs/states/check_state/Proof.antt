@@ -1,7 +1,9 @@
 -- `plan::states::check_state` meets its contract: K, the nodes, that they are inputs, T and the transitions, in the definition's order. Assumes nothing.
 use borrow.Author.Needs.{needs}
 use native.Mathlib.Omega.{arith}
-use Rattle.plan.proofs.StateLaws.{count-stops, clip-node-first, Counted, is-counted, nodes-between, first-node-place, nodes-stop, Tree, inputs-stop, is-tree, transition-count-stops, first-transition-place, transitions-few, transitions-end}
+use mathlib.Core.Path.{_∙_}
+use Rattle.model.specs.Laws.ClipNodes.{first-clip-node}
+use Rattle.plan.proofs.StateLaws.{count-stops, Counted, is-counted, nodes-between, first-node-place, nodes-stop, Tree, inputs-stop, is-tree, transition-count-stops, first-transition-place, transitions-few, transitions-end}
 use Rattle.plan.proofs.states.check_state.Statement.{statement}
 use Rattle.plan.proofs.states.check_state.Tie as tie
 
@@ -18,7 +20,7 @@ counted c =
 check-nodes-requires : tie.Need-check-nodes-requires
 check-nodes-requires c κs =
     let pre = c .before .before .before .before .before .pre in
-    (omega arith, first-node-place (counted c), omega (arith, nodes-between (counted c)), pre .2, pre .3, pre .5, clip-node-first _ _ _ (pre .6))
+    (omega arith, first-node-place (counted c), omega (arith, nodes-between (counted c)), pre .2, pre .3, pre .5, pre .6 ∙ first-clip-node _ _)
 
 returns-2 : tie.Need-returns-2
 returns-2 c =

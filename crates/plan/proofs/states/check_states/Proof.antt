@@ -6,8 +6,10 @@ use mathlib.Core.Path.{_≡_, refl}
 use Rattle.model.specs.Answers.{accepted, values, each}
 use Rattle.model.specs.Plan.{stateAt, total, clipNodesBefore, transitionsBefore}
 use Rattle.model.specs.Check.{checkState}
-use Rattle.plan.proofs.Laws.{never, passed, each-goes, each-refuses, each-ends}
-use Rattle.plan.proofs.StateLaws.{few, next-place, next-clip-nodes, next-transitions, ends}
+use Rattle.model.proofs.Tags.{never}
+use Rattle.layout.proofs.Laws.{clips-next, state-next, transitions-next}
+use Rattle.plan.proofs.Laws.{passed, each-goes, each-refuses, each-ends}
+use Rattle.plan.proofs.StateLaws.{few, ends}
 use Rattle.plan.proofs.states.check_states.Statement.{statement}
 use Rattle.plan.proofs.states.check_states.Tie as tie
 
@@ -45,7 +47,7 @@ loop-again c =
     let transitions = c .word2 .ensures .0 in
     let ok = passed _ _ (told .enum-told .given .1) (p .check-state .ensures) in
     let small = few _ _ _ _ _ (l .1) nodes transitions ok in
-    (each-goes _ _ _ (l .0) (p .check-state .ensures) (told .enum-told .given .1), next-place _ _ _ _ _ (l .1) nodes transitions, next-clip-nodes _ _ _ _ _ (l .1) nodes transitions ok _ (l .2), next-transitions _ _ _ _ _ (l .1) nodes transitions _ (l .3), omega arith, omega arith, omega arith, omega arith)
+    (each-goes _ _ _ (l .0) (p .check-state .ensures) (told .enum-told .given .1), state-next _ _ _ _ (l .1) nodes _ transitions, clips-next _ _ _ _ (l .1) nodes ok _ (l .2), transitions-next _ _ _ _ (l .1) nodes _ transitions _ (l .3), omega arith, omega arith, omega arith, omega arith)
 
 returns-2 : tie.Need-returns-2 Inv-loop μ-loop
 unfolding values

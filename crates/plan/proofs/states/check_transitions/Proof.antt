@@ -5,8 +5,8 @@ use native.Mathlib.Omega.{arith}
 use mathlib.Core.Path.{_≡_, refl}
 use Rattle.model.specs.Answers.{accepted, values, each}
 use Rattle.model.specs.Check.{checkTransition}
+use Rattle.layout.proofs.Laws.{condition-place}
 use Rattle.plan.proofs.Laws.{each-goes, each-refuses, each-ends}
-use Rattle.plan.proofs.StateLaws.{transition-place}
 use Rattle.plan.proofs.states.check_transitions.Statement.{statement}
 use Rattle.plan.proofs.states.check_transitions.Tie as tie
 
@@ -23,7 +23,7 @@ loop-holds c = (refl, omega arith)
 check-transition-requires : tie.Need-check-transition-requires Inv-loop μ-loop
 check-transition-requires c κs =
     let pre = c .before .before .before .pre in
-    (omega arith, transition-place _ _ _ _ (pre .1), pre .3, pre .4)
+    (omega arith, condition-place _ _ _ _ (pre .1), pre .3, pre .4)
 
 returns : tie.Need-returns Inv-loop μ-loop
 returns c =
