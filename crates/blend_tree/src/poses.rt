@@ -1,4 +1,4 @@
-// A block of joints' poses, by recursion over a state's nodes.
+// Poses of a state's nodes, for many joints at once.
 use animation::instance_at;
 use animation::local_time;
 use animation::pose_between;

@@ -1,4 +1,4 @@
-// Synchronising: lerp nodes whose inputs are both clips give these the rates that let them end together.
+// Synchronising: two clips that a node lerps with one another get the rates that let them end together.
 use animation::duration;
 use animation::instance_at;
 use animation::set_instance;

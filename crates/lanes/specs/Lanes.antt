@@ -21,7 +21,7 @@ laneAt block j =
       rotation = quaternion (getD block (128 + j) nan) (getD block (160 + j) nan) (getD block (192 + j) nan) (getD block (224 + j) nan);
     }
 
--- `new` is the block `old` with the pose p in lane j
+-- `new` holds p in lane j, and is `old` in every other lane
 pub record LaneSet (old : List Float) (j : ℕ) (p : Pose) (new : List Float) : Type 0 where
   pub here : laneAt new j ≡ p
   pub others : (k : ℕ) → k < blockSize → (k ≡ j → ⊥) → laneAt new k ≡ laneAt old k

@@ -26,7 +26,7 @@ pub fn lane(block: &[f32; 256], j: usize) -> Pose
     }
 }
 
-// A reference to an array says nothing of its length in a proof; lending it as a slice does.
+// Called for the proof alone: of a slice the length is known there, of a reference to an array it is not.
 fn sized(block: &[f32]) {}
 
 pub fn set_lane(block: &mut [f32; 256], j: usize, p: Pose)

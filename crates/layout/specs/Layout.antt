@@ -23,7 +23,7 @@ stateLayout plan s =
 unfoldable pub nodeOf : List ℕ → ℕ → ℕ → Node
 nodeOf plan s i = record { kind = kind plan s i; a = inputA plan s i; b = inputB plan s i; parameter = nodeParameter plan s i }
 
--- the condition of transition t of state s, with its target
+-- what state s asks before its transition t, and where that leads
 unfoldable pub conditionOf : List ℕ → ℕ → ℕ → Condition
 conditionOf plan s t = record { parameter = conditionParameter plan s t; operator = operator plan s t; target = targetState plan s t }
 

@@ -40,7 +40,7 @@ pub struct StateLayout {
     pub transitions: usize,
     // The number that is its first transition's value.
     pub values_at: usize,
-    // How many clip nodes the states before it have: the instance of its own first one.
+    // The instance of its first clip node: earlier states have those below.
     pub clip_node: usize,
 }
 
@@ -94,7 +94,7 @@ pub fn samples_before(plan: &[u16], joints: usize, c: usize) -> usize
     sum
 }
 
-// A scan over the states before it. A tree of K nodes has (K + 1) / 2 clip nodes, so it need not look at them.
+// Walks over the states before it. Of K nodes (K + 1) / 2 are clips, whatever the tree, so no node is looked at.
 pub fn state_layout(plan: &[u16], layout: Layout, state: usize) -> StateLayout
     requires { ⌜ Passes (now plan) × (layout ≡ layoutOf (now plan)) × (state < stateCount (now plan)) ⌝ }
     ensures { λ r. ⌜ r ≡ stateLayout (now (plan .entry)) state ⌝ }

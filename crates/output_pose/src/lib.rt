@@ -132,7 +132,7 @@ fn transition_factor(instant: f64, start: f64, duration: f32) -> f32
     narrow((instant - start) / widen(duration))
 }
 
-// A state on its way to another. Its own poses come from before the other is synchronised.
+// A state on its way to another. It shows itself by the instances that it had before the other's rates were set, as the Rust does.
 fn show_transition(
     plan: &[u16],
     numbers: &[f32],

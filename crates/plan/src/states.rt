@@ -125,7 +125,7 @@ pub fn check_states(
                 transitions: transitions,
             };
         };
-        // A tree of K nodes has (K + 1) / 2 clip nodes.
+        // (K + 1) / 2 of its K nodes are clips: model's Laws/Trees has why.
         let nodes = word(plan, at);
         let transitions_at = at + 1 + 4 * nodes;
         let n = word(plan, transitions_at);

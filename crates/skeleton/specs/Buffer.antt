@@ -24,7 +24,7 @@ matrixFrom l = record { r0 = rowFrom l; r1 = rowFrom (drop 4 l); r2 = rowFrom (d
 abbrev pub rowFloats : Row → List Float
 rowFloats r = r .c0 ∷ r .c1 ∷ r .c2 ∷ r .c3 ∷ []
 
--- the list with xs in place of what stands from k on
+-- the list l with xs written over it, beginning at float k
 unfoldable pub stored : List Float → ℕ → List Float → List Float
 stored l k xs = take k l ++ (xs ++ drop (k + length xs) l)
 

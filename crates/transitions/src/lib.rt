@@ -1,4 +1,4 @@
-// Step 1 of a frame: a transition ends, or the first whose condition holds begins.
+// What a frame does to the player's transition before anything is shown.
 use float::widen;
 use layout::StateLayout;
 use layout::condition_at;
@@ -61,7 +61,7 @@ fn begun(plan: &[u16], numbers: &[f32], here: StateLayout, instant: f64, t: usiz
     }
 }
 
-// In the plan's order, the first transition whose condition holds, or none.
+// Tries the conditions in the plan's order. The first that holds starts its transition; the player stays idle if none does.
 fn first_passing(
     plan: &[u16],
     numbers: &[f32],
