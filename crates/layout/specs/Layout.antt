@@ -3,13 +3,15 @@
 use Prim.Native.Nat.{ℕ, _<_}
 use mathlib.Core.Path.{_≡_}
 use mathlib.Core.List.{List}
+use lib.Ieee.{Float}
 use Rattle.model.specs.Answers.{accepted}
 use Rattle.model.specs.Check.{check}
-use Rattle.model.specs.Plan.{jointCount, clipCount, stateCount, initialState, stateAt, nodeCount, kindAt, kind, inputA, inputB, nodeParameter, transitionCount, conditionParameterAt, conditionParameter, operator, targetState, clipNodesBefore, posesAt, numberAt, Value}
+use Rattle.model.specs.Plan.{jointCount, clipCount, stateCount, initialState, stateAt, nodeCount, kindAt, kind, inputA, inputB, nodeParameter, transitionCount, conditionParameterAt, conditionParameter, operator, targetState, clipNodesBefore, posesAt, numberAt, Value, Duration, number}
 use Rattle.layout.specs.declared.Layout.{Layout}
 use Rattle.layout.specs.declared.StateLayout.{StateLayout}
 use Rattle.layout.specs.declared.Node.{Node}
 use Rattle.layout.specs.declared.Condition.{Condition}
+use Rattle.layout.specs.declared.TransitionNumbers.{TransitionNumbers}
 
 unfoldable pub layoutOf : List ℕ → Layout
 layoutOf plan =
@@ -26,6 +28,10 @@ nodeOf plan s i = record { kind = kind plan s i; a = inputA plan s i; b = inputB
 -- what state s asks before its transition t, and where that leads
 unfoldable pub conditionOf : List ℕ → ℕ → ℕ → Condition
 conditionOf plan s t = record { parameter = conditionParameter plan s t; operator = operator plan s t; target = targetState plan s t }
+
+-- the numbers of transition t of state s
+unfoldable pub numbersOf : List ℕ → List Float → ℕ → ℕ → TransitionNumbers
+numbersOf plan numbers s t = record { value = number plan numbers (Value s t); duration = number plan numbers (Duration s t) }
 
 -- ---- what functions over a layout ask of their callers
 

@@ -3,8 +3,8 @@ ghost use mathlib.Core.Path.{_≡_};
 ghost use Prim.Native.Nat.{_+_, _*_, _<_, _≤_};
 ghost use lib.ListN.{length, getD};
 ghost use lib.Ieee.{nan};
-ghost use Rattle.model.specs.Plan.{word, parentAt, parent, sampleCount, samplesBefore, clipCount, jointCount, stateCount, number, Rate, Value, Duration};
-ghost use Rattle.layout.specs.Layout.{layoutOf, stateLayout, nodeOf, conditionOf, Passes, InPlan};
+ghost use Rattle.model.specs.Plan.{word, parentAt, parent, sampleCount, samplesBefore, clipCount, jointCount, stateCount, number, Rate};
+ghost use Rattle.layout.specs.Layout.{layoutOf, stateLayout, nodeOf, conditionOf, numbersOf, Passes, InPlan};
 
 // The header's words, and the first parent.
 pub const JOINT_COUNT_AT: usize = 0;
@@ -57,6 +57,12 @@ pub struct Condition {
     pub target: usize,
 }
 
+// What a transition's condition compares with, and how long the transition takes.
+pub struct TransitionNumbers {
+    pub value: f32,
+    pub duration: f32,
+}
+
 // A word, 0 past the end.
 pub fn word(plan: &[u16], i: usize) -> usize
     ensures { λ r. ⌜ (r ≡ word (now (plan .entry)) i) × (r < 65536) ⌝ }
@@ -64,20 +70,28 @@ pub fn word(plan: &[u16], i: usize) -> usize
     if i < plan.len() { plan[i] as usize } else { 0 }
 }
 
+// A word that is there, read without a test.
+fn word_there(plan: &[u16], at: usize) -> usize
+    requires { ⌜ at < length (now plan) ⌝ }
+    ensures { λ r. ⌜ (r ≡ word (now (plan .entry)) at) × (r < 65536) ⌝ }
+{
+    plan[at] as usize
+}
+
 // Of a joint that the plan has.
 pub fn parent(plan: &[u16], j: usize) -> usize
     requires { ⌜ parentAt j < length (now plan) ⌝ }
     ensures { λ r. ⌜ r ≡ parent (now (plan .entry)) j ⌝ }
 {
-    plan[PARENTS_AT + j] as usize
+    word_there(plan, PARENTS_AT + j)
 }
 
-// Of a clip that the plan has. N is read without a test.
+// Of a clip that the plan has.
 pub fn sample_count(plan: &[u16], layout: Layout, c: usize) -> usize
     requires { ⌜ Passes (now plan) × (layout ≡ layoutOf (now plan)) × (c < clipCount (now plan)) ⌝ }
     ensures { λ r. ⌜ r ≡ sampleCount (now (plan .entry)) c ⌝ }
 {
-    plan[PARENTS_AT + layout.joints + c] as usize
+    word_there(plan, PARENTS_AT + layout.joints + c)
 }
 
 // How many samples the clips before c have. The check asks too, before it knows that the plan passes.
@@ -104,22 +118,22 @@ pub fn state_layout(plan: &[u16], layout: Layout, state: usize) -> StateLayout
     let mut clip_node = 0;
     let mut s = 0;
     while s < state {
-        let nodes = plan[at] as usize;
+        let nodes = word_there(plan, at);
         let transitions_at = at + 1 + 4 * nodes;
-        let transitions = plan[transitions_at] as usize;
+        let transitions = word_there(plan, transitions_at);
         clip_node += (nodes + 1) / 2;
         values_at += 2 * transitions;
         at = transitions_at + 1 + 3 * transitions;
         s += 1;
     }
-    let nodes = plan[at] as usize;
+    let nodes = word_there(plan, at);
     let transitions_at = at + 1 + 4 * nodes;
     StateLayout {
         state: state,
         nodes_at: at + 1,
         nodes: nodes,
         transitions_at: transitions_at + 1,
-        transitions: plan[transitions_at] as usize,
+        transitions: word_there(plan, transitions_at),
         values_at: values_at,
         clip_node: clip_node,
     }
@@ -132,10 +146,10 @@ pub fn node_at(plan: &[u16], here: StateLayout, i: usize) -> Node
 {
     let at = here.nodes_at + 4 * i;
     Node {
-        kind: plan[at] as usize,
-        a: plan[at + 1] as usize,
-        b: plan[at + 2] as usize,
-        parameter: plan[at + 3] as usize,
+        kind: word_there(plan, at),
+        a: word_there(plan, at + 1),
+        b: word_there(plan, at + 2),
+        parameter: word_there(plan, at + 3),
     }
 }
 
@@ -146,9 +160,9 @@ pub fn condition_at(plan: &[u16], here: StateLayout, t: usize) -> Condition
 {
     let at = here.transitions_at + 3 * t;
     Condition {
-        parameter: plan[at] as usize,
-        operator: plan[at + 1] as usize,
-        target: plan[at + 2] as usize,
+        parameter: word_there(plan, at),
+        operator: word_there(plan, at + 1),
+        target: word_there(plan, at + 2),
     }
 }
 
@@ -169,19 +183,16 @@ pub fn rate(plan: &[u16], numbers: &[f32], c: usize) -> f32
     number(numbers, c)
 }
 
-// The value that a transition's condition compares with.
-pub fn value(plan: &[u16], numbers: &[f32], here: StateLayout, t: usize) -> f32
+// Of a transition that the state has.
+pub fn numbers_at(plan: &[u16], numbers: &[f32], here: StateLayout, t: usize) -> TransitionNumbers
     requires { ⌜ Passes (now plan) × InPlan (now plan) here × (t < here .transitions) ⌝ }
-    ensures { λ r. ⌜ r ≡ number (now (plan .entry)) (now (numbers .entry)) (Value (here .state) t) ⌝ }
+    ensures { λ r. ⌜ r ≡ numbersOf (now (plan .entry)) (now (numbers .entry)) (here .state) t ⌝ }
 {
-    number(numbers, here.values_at + 2 * t)
-}
-
-pub fn duration(plan: &[u16], numbers: &[f32], here: StateLayout, t: usize) -> f32
-    requires { ⌜ Passes (now plan) × InPlan (now plan) here × (t < here .transitions) ⌝ }
-    ensures { λ r. ⌜ r ≡ number (now (plan .entry)) (now (numbers .entry)) (Duration (here .state) t) ⌝ }
-{
-    number(numbers, here.values_at + 2 * t + 1)
+    let at = here.values_at + 2 * t;
+    TransitionNumbers {
+        value: number(numbers, at),
+        duration: number(numbers, at + 1),
+    }
 }
 
 // Where a sample's pose of a joint begins. The sample is counted over all clips.

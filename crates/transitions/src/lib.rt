@@ -2,8 +2,7 @@
 use float::widen;
 use layout::StateLayout;
 use layout::condition_at;
-use layout::duration;
-use layout::value;
+use layout::numbers_at;
 use model::Transition;
 ghost use mathlib.Core.Path.{_≡_};
 ghost use Prim.Native.Nat.{_<_};
@@ -44,8 +43,8 @@ fn condition_holds(
 {
     let condition = condition_at(plan, here, t);
     let parameter = condition.parameter;
-    let v = value(plan, numbers, here, t);
-    holds(condition.operator, parameters[parameter], v)
+    let compared = numbers_at(plan, numbers, here, t);
+    holds(condition.operator, parameters[parameter], compared.value)
 }
 
 // Transition t of the state, started at an instant.
@@ -54,10 +53,11 @@ fn begun(plan: &[u16], numbers: &[f32], here: StateLayout, instant: f64, t: usiz
     ensures { λ r. ⌜ r ≡ begun (now (plan .entry)) (now (numbers .entry)) instant (here .state) t ⌝ }
 {
     let condition = condition_at(plan, here, t);
+    let taken = numbers_at(plan, numbers, here, t);
     Transition::Running {
         start: instant,
         target: condition.target,
-        duration: duration(plan, numbers, here, t),
+        duration: taken.duration,
     }
 }
 

@@ -2,7 +2,7 @@
 use borrow.Author.Needs.{needs}
 use Prim.Native.Nat.{_<_}
 use native.Mathlib.Omega.{arith}
-use Rattle.layout.specs.Layout.{conditionOf}
+use Rattle.layout.specs.Layout.{conditionOf, numbersOf}
 use Rattle.transitions.proofs.Laws.{parameter-there}
 use Rattle.transitions.proofs.condition_holds.Statement.{statement}
 use Rattle.transitions.proofs.condition_holds.Tie as tie
@@ -11,10 +11,10 @@ there : (c : tie.After-condition-at) → c .condition-at .result .parameter < 32
 there c = let p = c .before .before .before .pre in parameter-there (p .0) (p .1) (p .2) (c .condition-at .ensures)
 
 returns : tie.Need-returns
-unfolding conditionOf
+unfolding conditionOf numbersOf
 returns c =
     let v = c .before .before in
-    rw (c .holds .ensures, v .value .ensures, v .before .condition-at .ensures)
+    rw (c .holds .ensures, v .numbers-at .ensures, v .before .condition-at .ensures)
 
 pub condition-holds-spec : {M : Type 1} → statement M
 condition-holds-spec =
