@@ -5,26 +5,11 @@ use controller::set;
 use controller::start;
 use model::Player;
 use model::Transition;
-ghost use mathlib.Core.Path.{_≡_};
-ghost use lib.ListN.{length};
 
-// One joint, one clip of one sample, one state.
-pub fn example_plan() -> [u16; 13]
-    ensures { λ r. ⌜ 13 ≡ length r ⌝ }
-{
-    [1, 1, 0, 1, 0, 255, 1, 1, 0, 0, 0, 0, 0]
-}
-
-pub fn example_numbers() -> [f32; 9]
-    ensures { λ r. ⌜ 9 ≡ length r ⌝ }
-{
-    [1.0, 1.0, 2.0, 3.0, 1.0, 1.0, 0.0, 0.0, 0.0]
-}
-
-// The output is two floats longer than it need be: these keep their contents.
+// One joint, one clip of one sample, one state. The output is two floats longer than it need be: these keep their contents.
 pub fn printed_example() {
-    let plan = example_plan();
-    let numbers = example_numbers();
+    let plan: [u16; 13] = [1, 1, 0, 1, 0, 255, 1, 1, 0, 0, 0, 0, 0];
+    let numbers: [f32; 9] = [1.0, 1.0, 2.0, 3.0, 1.0, 1.0, 0.0, 0.0, 0.0];
     let mut output = [9.0f32; 18];
     let begun = start(&plan, &numbers);
     let begun_answer = begun.answer;
@@ -45,7 +30,7 @@ fn try_start(plan: &[u16], numbers: &[f32]) {
 }
 
 pub fn of_start() {
-    let numbers = example_numbers();
+    let numbers: [f32; 9] = [1.0, 1.0, 2.0, 3.0, 1.0, 1.0, 0.0, 0.0, 0.0];
     let plan: [u16; 14] = [1, 1, 0, 1, 0, 255, 1, 1, 0, 0, 0, 0, 0, 0];
     // 1: it ends after three words.
     try_start(&plan[..3], &numbers);
@@ -78,8 +63,8 @@ fn try_frame(plan: &[u16], numbers: &[f32], player: Player, output: &mut [f32]) 
 }
 
 pub fn of_set_and_frame() {
-    let plan = example_plan();
-    let numbers = example_numbers();
+    let plan: [u16; 13] = [1, 1, 0, 1, 0, 255, 1, 1, 0, 0, 0, 0, 0];
+    let numbers: [f32; 9] = [1.0, 1.0, 2.0, 3.0, 1.0, 1.0, 0.0, 0.0, 0.0];
     let mut output = [9.0f32; 15];
     let begun = start(&plan, &numbers);
     let player = begun.player;

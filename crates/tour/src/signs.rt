@@ -1,6 +1,5 @@
 // Two signs of an arm of two joints, with a transition each way; a page frame; and NaN.
 use crate::print;
-use crate::refusals::example_plan;
 use controller::frame;
 use controller::page_frame;
 use controller::set;
@@ -136,7 +135,7 @@ pub fn there_and_back() {
 
 // One joint, turned by the rotation ½ ½ ½ ½.
 pub fn page() {
-    let plan = example_plan();
+    let plan: [u16; 13] = [1, 1, 0, 1, 0, 255, 1, 1, 0, 0, 0, 0, 0];
     let numbers: [f32; 9] = [1.0, 1.0, 2.0, 3.0, 1.0, 0.5, 0.5, 0.5, 0.5];
     let mut output = [0.0f32; 16];
     let begun = start(&plan, &numbers);
