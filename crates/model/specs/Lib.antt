@@ -12,6 +12,8 @@ pub mod Controller
 pub mod Skeleton
 pub mod Run
 pub mod Unseen
+pub mod Text
+pub mod Program
 pub mod Promises
 -- what follows from them
 pub mod Laws

@@ -7,9 +7,11 @@ use lib.ListN.{length}
 use lib.Ieee.{Float}
 use Rattle.model.specs.declared.Player.{Player}
 use Rattle.model.specs.declared.Outcome.{Outcome}
+use Rattle.model.specs.declared.TextAnswer.{TextAnswer}
 use Rattle.model.specs.Answers.{values, unlessRefused}
 use Rattle.model.specs.Controller.{withSpeed, updated, parameterSet, setVerdict, frameVerdict}
 use Rattle.model.specs.Skeleton.{written}
+use Rattle.model.specs.Text.{readFigure, textValues, textVerdict, whenAccepted, overwritten, readWords, readFloats}
 use Rattle.model.specs.Run.{startVerdict, startPlayer, FrameKind, framePlayer, frameMatrices}
 
 pub record Started (plan : List ℕ) (numbers : List Float) (r : Outcome) : Type 0 where
@@ -31,3 +33,9 @@ pub record Framed (kind : FrameKind) (plan : List ℕ) (numbers : List Float) (p
   pub answer : values (r .answer) ≡ frameVerdict plan numbers p (length old)
   pub player : r .player ≡ unlessRefused (frameVerdict plan numbers p (length old)) (framePlayer plan numbers p ext) p
   pub output : new ≡ unlessRefused (frameVerdict plan numbers p (length old)) (written plan (frameMatrices plan numbers p ext kind) old) old
+
+-- Both slices, given as what they hold when the call begins and when it returns
+pub record TextRead (text planOld planNew : List ℕ) (numbersOld numbersNew : List Float) (r : TextAnswer) : Type 0 where
+  pub answer : textValues r ≡ textVerdict (readFigure text) (length planOld) (length numbersOld)
+  pub plan : planNew ≡ whenAccepted (textVerdict (readFigure text) (length planOld) (length numbersOld)) (overwritten (readWords (readFigure text)) planOld) planOld
+  pub numbers : numbersNew ≡ whenAccepted (textVerdict (readFigure text) (length planOld) (length numbersOld)) (overwritten (readFloats (readFigure text)) numbersOld) numbersOld

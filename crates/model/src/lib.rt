@@ -73,3 +73,28 @@ pub struct Outcome {
     pub answer: Answer,
     pub player: Player,
 }
+
+// ---- text
+
+// The seven kinds of line.
+pub enum LineKind {
+    Figure,
+    Joint,
+    Clip,
+    State,
+    Node,
+    Go,
+    Pose,
+}
+
+// What a field holds: a decimal up to a limit, or a float's bits.
+pub enum FieldForm {
+    Decimal { limit: u16 },
+    Bits,
+}
+
+// The reader's answer: how many words and numbers it wrote, or a refusal.
+pub enum TextAnswer {
+    Accepted { words: usize, numbers: usize },
+    Refused { number: usize, place: usize },
+}
