@@ -1,0 +1,36 @@
+-- A figure's lines behind its joints, the sum of its clips' samples, and a text that passed. Definitions only.
+use Prim.Native.Nat.{ℕ, _*_, _≤_}
+use mathlib.Core.Path.{_≡_}
+use mathlib.Core.List.{List}
+use lib.ListN.{length, getD}
+use Rattle.model.specs.declared.LineKind.the-variants.{Clip, Pose}
+use Rattle.model.specs.Plan.{maxSamples, total}
+use Rattle.model.specs.Text.{Reading, bad, got, andThen, times, readLine, readState, readEnd}
+use Rattle.text.specs.declared.put.Progress.{Progress}
+
+-- nothing is read yet
+abbrev pub begin : Progress
+begin = record { at = 0; line = 0; words = 0; numbers = 0 }
+
+-- m is the sum of the words of `count` clip lines
+unfoldable pub sampled : ℕ → ℕ → Reading → Type 0
+sampled count m (bad n) = ⊤
+sampled count m (got ws bs rest n) = (m ≡ total (λ c. getD ws c 0) count) × (m ≤ count * maxSamples)
+
+-- the last part of readFigure, by its counts
+unfoldable pub readMotion : ℕ → ℕ → ℕ → List ℕ → Reading
+readMotion joints clips states s =
+    andThen (times clips (readLine Clip) s) (λ samples s₁.
+    andThen (times states readState s₁) (λ _ s₂.
+    andThen (times (total (λ c. getD samples c 0) clips * joints) (readLine Pose) s₂) (λ _.
+    readEnd)))
+
+-- a text without a bad line, and how many words and numbers it has
+pub record Judged (words numbers : ℕ) (read : Reading) : Type 0 where
+  pub plan : List ℕ
+  pub bits : List ℕ
+  pub rest : List ℕ
+  pub lines : ℕ
+  pub reading : read ≡ got plan bits rest lines
+  pub words : words ≡ length plan
+  pub numbers : numbers ≡ length bits

@@ -1,0 +1,233 @@
+// The lines of a figure in their order, and the call.
+use crate::line::LineEnd;
+use crate::line::line_at;
+use crate::put::Progress;
+use crate::put::Step;
+use crate::put::put_line;
+use crate::put::put_word;
+use crate::put::read_lines;
+use model::LineKind;
+use model::TextAnswer;
+ghost use mathlib.Core.Path.{_≡_};
+ghost use Prim.Native.Nat.{_<_, _≤_};
+ghost use mathlib.Core.List.{List};
+ghost use Prim.Native.Nat.{ℕ};
+ghost use lib.ListN.{drop};
+ghost use lib.Ieee.{Float};
+ghost use Rattle.model.specs.Promises.{TextRead};
+ghost use Rattle.model.specs.Text.{readLine, readState, times, readEnd, readFigure};
+ghost use Rattle.model.specs.declared.LineKind.the-variants as LineKind;
+ghost use Rattle.text.specs.Steps.{InText, stepped};
+ghost use Rattle.text.specs.Figures.{sampled, readMotion, begin, Judged};
+
+// ---- states
+
+// The text has T beside K; the plan has it behind the nodes.
+fn read_state(text: &[u8], from: Progress, plan: &mut [u16], numbers: &mut [f32]) -> Step
+    requires { ⌜ InText (now text) from ⌝ }
+    ensures { λ r. ⌜ stepped (now (text .entry)) from (now (plan .entry)) (now (plan .exit)) (now (numbers .entry)) (now (numbers .exit)) r (readState (drop (from .at) (now (text .entry)))) ⌝ }
+{
+    let mut values = [0usize; 8];
+    let found = line_at(text, from.at, LineKind::State, &mut values);
+    let LineEnd::At(end) = found else {
+        return Step::Malformed {
+            line: from.line + 1,
+        };
+    };
+    let nodes = values[0];
+    let transitions = values[1];
+    put_word(plan, from.words, nodes);
+    let first_node = Progress {
+        at: end,
+        line: from.line + 1,
+        words: from.words + 1,
+        numbers: from.numbers,
+    };
+    let nodes_read = read_lines(text, LineKind::Node, nodes, first_node, plan, numbers);
+    let Step::Next(after) = nodes_read else {
+        return nodes_read;
+    };
+    put_word(plan, after.words, transitions);
+    let first_go = Progress {
+        at: after.at,
+        line: after.line,
+        words: after.words + 1,
+        numbers: after.numbers,
+    };
+    read_lines(text, LineKind::Go, transitions, first_go, plan, numbers)
+}
+
+fn read_states(
+    text: &[u8],
+    count: usize,
+    from: Progress,
+    plan: &mut [u16],
+    numbers: &mut [f32],
+) -> Step
+    requires { ⌜ InText (now text) from ⌝ }
+    ensures { λ r. ⌜ stepped (now (text .entry)) from (now (plan .entry)) (now (plan .exit)) (now (numbers .entry)) (now (numbers .exit)) r (times count readState (drop (from .at) (now (text .entry)))) ⌝ }
+{
+    let mut progress = from;
+    let mut s = 0;
+    while s < count {
+        let step = read_state(text, progress, plan, numbers);
+        let Step::Next(next) = step else {
+            return step;
+        };
+        progress = next;
+        s += 1;
+    }
+    Step::Next(progress)
+}
+
+// ---- clips
+
+// Where the clips end, with the sum of their samples, which says how many poses there are.
+struct Clips {
+    step: Step,
+    samples: usize,
+}
+
+fn read_clips(
+    text: &[u8],
+    count: usize,
+    from: Progress,
+    plan: &mut [u16],
+    numbers: &mut [f32],
+) -> Clips
+    requires { ⌜ InText (now text) from × (count ≤ 16) ⌝ }
+    ensures { λ r. ⌜ stepped (now (text .entry)) from (now (plan .entry)) (now (plan .exit)) (now (numbers .entry)) (now (numbers .exit)) (r .step) (times count (readLine LineKind.Clip) (drop (from .at) (now (text .entry)))) × sampled count (r .samples) (times count (readLine LineKind.Clip) (drop (from .at) (now (text .entry)))) ⌝ }
+{
+    let mut progress = from;
+    let mut samples = 0;
+    let mut c = 0;
+    while c < count {
+        let mut values = [0usize; 8];
+        let found = line_at(text, progress.at, LineKind::Clip, &mut values);
+        let LineEnd::At(end) = found else {
+            let step = Step::Malformed {
+                line: progress.line + 1,
+            };
+            return Clips { step, samples: 0 };
+        };
+        progress = put_line(text, LineKind::Clip, &values, end, progress, plan, numbers);
+        samples += values[0];
+        c += 1;
+    }
+    let step = Step::Next(progress);
+    Clips { step, samples }
+}
+
+// ---- the whole
+
+// A line where none is left to come is one too many.
+fn read_end(text: &[u8], from: Progress) -> Step
+    requires { ⌜ InText (now text) from ⌝ }
+    ensures { λ r. ⌜ (plan : List ℕ) (numbers : List Float) → stepped (now (text .entry)) from plan plan numbers numbers r (readEnd (drop (from .at) (now (text .entry)))) ⌝ }
+{
+    if from.at < text.len() {
+        return Step::Malformed {
+            line: from.line + 1,
+        };
+    }
+    Step::Next(from)
+}
+
+// Clips, states and poses, for the header's counts.
+fn read_motion(
+    text: &[u8],
+    joints: usize,
+    clips: usize,
+    states: usize,
+    from: Progress,
+    plan: &mut [u16],
+    numbers: &mut [f32],
+) -> Step
+    requires { ⌜ InText (now text) from × (joints ≤ 64) × (clips ≤ 16) ⌝ }
+    ensures { λ r. ⌜ stepped (now (text .entry)) from (now (plan .entry)) (now (plan .exit)) (now (numbers .entry)) (now (numbers .exit)) r (readMotion joints clips states (drop (from .at) (now (text .entry)))) ⌝ }
+{
+    let clips_read = read_clips(text, clips, from, plan, numbers);
+    let clips_step = clips_read.step;
+    let Step::Next(behind_clips) = clips_step else {
+        return clips_step;
+    };
+    let states_step = read_states(text, states, behind_clips, plan, numbers);
+    let Step::Next(behind_states) = states_step else {
+        return states_step;
+    };
+    let poses = clips_read.samples * joints;
+    let poses_step = read_lines(text, LineKind::Pose, poses, behind_states, plan, numbers);
+    let Step::Next(behind_poses) = poses_step else {
+        return poses_step;
+    };
+    read_end(text, behind_poses)
+}
+
+fn read_figure(text: &[u8], plan: &mut [u16], numbers: &mut [f32]) -> Step
+    ensures { λ r. ⌜ stepped (now (text .entry)) begin (now (plan .entry)) (now (plan .exit)) (now (numbers .entry)) (now (numbers .exit)) r (readFigure (now (text .entry))) ⌝ }
+{
+    let mut values = [0usize; 8];
+    let found = line_at(text, 0, LineKind::Figure, &mut values);
+    let LineEnd::At(end) = found else {
+        return Step::Malformed { line: 1 };
+    };
+    let begin = Progress {
+        at: 0,
+        line: 0,
+        words: 0,
+        numbers: 0,
+    };
+    let header = put_line(text, LineKind::Figure, &values, end, begin, plan, numbers);
+    let joints = values[0];
+    let clips = values[1];
+    let states = values[3];
+    let joints_step = read_lines(text, LineKind::Joint, joints, header, plan, numbers);
+    let Step::Next(behind_joints) = joints_step else {
+        return joints_step;
+    };
+    read_motion(text, joints, clips, states, behind_joints, plan, numbers)
+}
+
+// A text that passed, where there is room for it.
+fn write_figure(
+    text: &[u8],
+    words: usize,
+    count: usize,
+    plan: &mut [u16],
+    numbers: &mut [f32],
+) -> TextAnswer
+    requires { ⌜ Judged words count (readFigure (now text)) ⌝ }
+    ensures { λ r. ⌜ TextRead (now (text .entry)) (now (plan .entry)) (now (plan .exit)) (now (numbers .entry)) (now (numbers .exit)) r ⌝ }
+{
+    if plan.len() < words {
+        return TextAnswer::Refused {
+            number: 12,
+            place: 0,
+        };
+    }
+    if numbers.len() < count {
+        return TextAnswer::Refused {
+            number: 12,
+            place: 0,
+        };
+    }
+    read_figure(text, plan, numbers);
+    TextAnswer::Accepted {
+        words,
+        numbers: count,
+    }
+}
+
+// The figure of a text, in the front of both slices; what follows there is kept. Refused, both keep their contents.
+pub fn read(text: &[u8], plan: &mut [u16], numbers: &mut [f32]) -> TextAnswer
+    ensures { λ r. ⌜ TextRead (now (text .entry)) (now (plan .entry)) (now (plan .exit)) (now (numbers .entry)) (now (numbers .exit)) r ⌝ }
+{
+    let judged = read_figure(text, &mut plan[..0], &mut numbers[..0]);
+    match judged {
+        Step::Malformed { line } => TextAnswer::Refused {
+            number: 11,
+            place: line,
+        },
+        Step::Next(whole) => write_figure(text, whole.words, whole.numbers, plan, numbers),
+    }
+}
