@@ -14,7 +14,7 @@ begin = record { at = 0; line = 0; words = 0; numbers = 0 }
 
 -- m is the sum of the words of `count` clip lines
 unfoldable pub sampled : ℕ → ℕ → Reading → Type 0
-sampled count m (bad n) = ⊤
+sampled count m (bad n) = Unit {0}
 sampled count m (got ws bs rest n) = (m ≡ total (λ c. getD ws c 0) count) × (m ≤ count * maxSamples)
 
 -- the last part of readFigure, by its counts
@@ -32,5 +32,5 @@ pub record Judged (words numbers : ℕ) (read : Reading) : Type 0 where
   pub rest : List ℕ
   pub lines : ℕ
   pub reading : read ≡ got plan bits rest lines
-  pub words : words ≡ length plan
-  pub numbers : numbers ≡ length bits
+  pub planLength : words ≡ length plan
+  pub numbersLength : numbers ≡ length bits

@@ -1,26 +1,14 @@
--- What the reader's functions say of a text: of one line, and of a row of lines. Definitions only.
+-- What the reader's functions say of a text: of a row of lines. Definitions only.
 use Prim.Native.Nat.{ℕ, _+_, _*_, _≤_}
 use mathlib.Core.Path.{_≡_}
 use mathlib.Core.List.{List}
 use lib.ListN.{length, drop}
 use lib.Seq.{sets}
 use lib.Ieee.{Float}
-use Rattle.model.specs.Text as Text
 use Rattle.model.specs.Text.{Reading, bad, got, floatsOf}
-use Rattle.text.specs.declared.line.LineEnd.{LineEnd}
-use Rattle.text.specs.declared.line.LineEnd.the-variants.{At, Malformed}
 use Rattle.text.specs.declared.put.Progress.{Progress}
 use Rattle.text.specs.declared.put.Step.{Step}
 use Rattle.text.specs.declared.put.Step.the-variants as step
-
--- a line's values and the place behind it, or that it is malformed
-pub record LineFound (text values : List ℕ) (end : ℕ) (read : Text.Line) : Type 0 where
-  pub reading : read ≡ Text.line values (drop end text)
-  pub inside : end ≤ length text
-
-unfoldable pub lineFound : List ℕ → List ℕ → LineEnd → Text.Line → Type 0
-lineFound text values (At end) read = LineFound text values end read
-lineFound text values Malformed read = read ≡ Text.malformed
 
 -- a place in the text that lies behind all that was read before it
 pub record InText (text : List ℕ) (r : Progress) : Type 0 where
@@ -29,7 +17,7 @@ pub record InText (text : List ℕ) (r : Progress) : Type 0 where
 
 -- From r to q: the words and the floats of the bits stand in the slices from r's counts on
 pub record Moved (text ws bs rest : List ℕ) (lines : ℕ) (r q : Progress) (planOld planNew : List ℕ) (numbersOld numbersNew : List Float) : Type 0 where
-  pub rest : rest ≡ drop (q .at) text
+  pub left : rest ≡ drop (q .at) text
   pub inside : q .at ≤ length text
   pub spent : r .at + lines + 2 * length ws + 9 * length bs ≤ q .at
   pub line : q .line ≡ r .line + lines

@@ -1,6 +1,6 @@
 // The lines of a figure in their order, and the call.
-use crate::line::LineEnd;
-use crate::line::line_at;
+use lines::LineEnd;
+use lines::line_at;
 use crate::put::Progress;
 use crate::put::Step;
 use crate::put::put_line;
@@ -123,7 +123,7 @@ fn read_clips(
 // A line where none is left to come is one too many.
 fn read_end(text: &[u8], from: Progress) -> Step
     requires { ⌜ InText (now text) from ⌝ }
-    ensures { λ r. ⌜ (plan : List ℕ) (numbers : List Float) → stepped (now (text .entry)) from plan plan numbers numbers r (readEnd (drop (from .at) (now (text .entry)))) ⌝ }
+    ensures { λ r. ⌜ (plan : List ℕ) → (numbers : List Float) → stepped (now (text .entry)) from plan plan numbers numbers r (readEnd (drop (from .at) (now (text .entry)))) ⌝ }
 {
     if from.at < text.len() {
         return Step::Malformed {

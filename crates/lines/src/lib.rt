@@ -1,13 +1,14 @@
-// A line: its name, its fields with a comma before each, LF.
+// Lines of a text: a name, fields with a comma before each, LF.
 use fields::Field;
 use fields::read_field;
 use model::FieldForm;
 use model::LineKind;
 ghost use mathlib.Core.Path.{_≡_};
+ghost use mathlib.Core.List.{[], _∷_};
 ghost use Prim.Native.Nat.{_<_};
 ghost use lib.ListN.{length, getD, take, drop};
 ghost use Rattle.model.specs.Text.{limits, decimalCount, bitsCount, fieldCount, formOf, name, begins, lastFields, lineIn};
-ghost use Rattle.text.specs.Steps.{lineFound};
+ghost use Rattle.lines.specs.Found.{lineFound};
 
 // The place behind a line's LF.
 pub enum LineEnd {
