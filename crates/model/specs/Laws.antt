@@ -12,3 +12,4 @@ pub mod Passed
 pub mod Steps
 pub mod Numbers
 pub mod ClipNodes
+pub mod Text

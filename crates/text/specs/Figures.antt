@@ -3,14 +3,21 @@ use Prim.Native.Nat.{ℕ, _*_, _≤_}
 use mathlib.Core.Path.{_≡_}
 use mathlib.Core.List.{List}
 use lib.ListN.{length, getD}
+use lib.Ieee.{Float}
 use Rattle.model.specs.declared.LineKind.the-variants.{Clip, Pose}
 use Rattle.model.specs.Plan.{maxSamples, total}
 use Rattle.model.specs.Text.{Reading, bad, got, andThen, times, readLine, readState, readEnd}
 use Rattle.text.specs.declared.put.Progress.{Progress}
+use Rattle.text.specs.declared.put.Step.{Step}
+use Rattle.text.specs.Steps.{stepped}
 
 -- nothing is read yet
 abbrev pub begin : Progress
 begin = record { at = 0; line = 0; words = 0; numbers = 0 }
+
+-- a step that leaves all slices alone
+abbrev pub ended : List ℕ → Progress → Step → Reading → Type 0
+ended text r step read = (plan : List ℕ) → (numbers : List Float) → stepped text r plan plan numbers numbers step read
 
 -- m is the sum of the words of `count` clip lines
 unfoldable pub sampled : ℕ → ℕ → Reading → Type 0

@@ -12,14 +12,14 @@ use Rattle.text.specs.declared.put.Step.the-variants as step
 
 -- a place in the text that lies behind all that was read before it
 pub record InText (text : List ℕ) (r : Progress) : Type 0 where
-  pub spent : r .line + 2 * r .words + 9 * r .numbers ≤ r .at
+  pub spent : 3 * r .line + 2 * r .words + 9 * r .numbers ≤ r .at
   pub inside : r .at ≤ length text
 
 -- From r to q: the words and the floats of the bits stand in the slices from r's counts on
 pub record Moved (text ws bs rest : List ℕ) (lines : ℕ) (r q : Progress) (planOld planNew : List ℕ) (numbersOld numbersNew : List Float) : Type 0 where
   pub left : rest ≡ drop (q .at) text
   pub inside : q .at ≤ length text
-  pub spent : r .at + lines + 2 * length ws + 9 * length bs ≤ q .at
+  pub spent : r .at + 3 * lines + 2 * length ws + 9 * length bs ≤ q .at
   pub line : q .line ≡ r .line + lines
   pub words : q .words ≡ r .words + length ws
   pub numbers : q .numbers ≡ r .numbers + length bs

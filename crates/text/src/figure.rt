@@ -10,15 +10,12 @@ use model::LineKind;
 use model::TextAnswer;
 ghost use mathlib.Core.Path.{_≡_};
 ghost use Prim.Native.Nat.{_<_, _≤_};
-ghost use mathlib.Core.List.{List};
-ghost use Prim.Native.Nat.{ℕ};
 ghost use lib.ListN.{drop};
-ghost use lib.Ieee.{Float};
 ghost use Rattle.model.specs.Promises.{TextRead};
 ghost use Rattle.model.specs.Text.{readLine, readState, times, readEnd, readFigure};
 ghost use Rattle.model.specs.declared.LineKind.the-variants as LineKind;
 ghost use Rattle.text.specs.Steps.{InText, stepped};
-ghost use Rattle.text.specs.Figures.{sampled, readMotion, begin, Judged};
+ghost use Rattle.text.specs.Figures.{sampled, ended, readMotion, begin, Judged};
 
 // ---- states
 
@@ -123,7 +120,7 @@ fn read_clips(
 // A line where none is left to come is one too many.
 fn read_end(text: &[u8], from: Progress) -> Step
     requires { ⌜ InText (now text) from ⌝ }
-    ensures { λ r. ⌜ (plan : List ℕ) → (numbers : List Float) → stepped (now (text .entry)) from plan plan numbers numbers r (readEnd (drop (from .at) (now (text .entry)))) ⌝ }
+    ensures { λ r. ⌜ ended (now (text .entry)) from r (readEnd (drop (from .at) (now (text .entry)))) ⌝ }
 {
     if from.at < text.len() {
         return Step::Malformed {
