@@ -1,0 +1,70 @@
+// From the bytes of a text to the bytes that are printed.
+use controller::frame;
+use controller::start;
+use layout::JOINT_COUNT_AT;
+use layout::word;
+use model::Answer;
+use model::Player;
+use model::TextAnswer;
+use printing::put_joints;
+use printing::put_refusal;
+ghost use mathlib.Core.Path.{_≡_};
+ghost use Prim.Native.Nat.{_≤_};
+ghost use lib.ListN.{length, take};
+ghost use Rattle.model.specs.Answers.{accepted};
+ghost use Rattle.model.specs.Controller.{fresh};
+ghost use Rattle.model.specs.Run.{startVerdict};
+ghost use Rattle.model.specs.Text.{overwritten};
+ghost use Rattle.model.specs.Program.{played, printed};
+
+// One frame with ext 0 of a figure that was started.
+fn show(plan: &[u16], numbers: &[f32], player: Player, out: &mut [u8]) -> usize
+    requires { ⌜ (startVerdict (now plan) (now numbers) ≡ accepted) × (player ≡ fresh (now plan) (now numbers)) × (9792 ≤ length (now out)) ⌝ }
+    ensures { λ r. ⌜ (r ≡ length (played (now (plan .entry)) (now (numbers .entry)) accepted)) × (now (out .exit) ≡ overwritten (played (now (plan .entry)) (now (numbers .entry)) accepted) (now (out .entry))) ⌝ }
+{
+    let mut floats = [0.0f32; 1024];
+    frame(plan, numbers, player, 0.0, &mut floats);
+    put_joints(out, word(plan, JOINT_COUNT_AT), &floats)
+}
+
+fn play(plan: &[u16], numbers: &[f32], out: &mut [u8]) -> usize
+    requires { ⌜ 9792 ≤ length (now out) ⌝ }
+    ensures { λ r. ⌜ (r ≡ length (played (now (plan .entry)) (now (numbers .entry)) (startVerdict (now (plan .entry)) (now (numbers .entry))))) × (now (out .exit) ≡ overwritten (played (now (plan .entry)) (now (numbers .entry)) (startVerdict (now (plan .entry)) (now (numbers .entry)))) (now (out .entry))) ⌝ }
+{
+    let begun = start(plan, numbers);
+    let started = begun.answer;
+    match started {
+        Answer::Refused { number, place } => put_refusal(out, number, place),
+        Answer::Accepted => {
+            let player = begun.player;
+            show(plan, numbers, player, out)
+        }
+    }
+}
+
+// The slices hold any figure of a text that is not too long: a word takes two bytes of it at the least, and a number nine.
+fn read_and_play(text: &[u8], out: &mut [u8]) -> usize
+    requires { ⌜ (length (now text) ≤ 65536) × (9792 ≤ length (now out)) ⌝ }
+    ensures { λ r. ⌜ (r ≡ length (printed (now (text .entry)))) × (now (out .exit) ≡ overwritten (printed (now (text .entry))) (now (out .entry))) ⌝ }
+{
+    let mut plan = [0u16; 32768];
+    let mut numbers = [0.0f32; 7282];
+    let read = text::read(text, &mut plan, &mut numbers);
+    match read {
+        TextAnswer::Refused { number, place } => put_refusal(out, number, place),
+        TextAnswer::Accepted { words, numbers: count } => {
+            play(&plan[..words], &numbers[..count], out)
+        }
+    }
+}
+
+// What the program prints for a text, in the front of `out`, and how many bytes that is.
+pub fn answer(text: &[u8], out: &mut [u8; 9792]) -> usize
+    ensures { λ r. ⌜ (r ≤ length (now (out .exit))) × (r ≡ length (take r (now (out .exit)))) ⌝ }
+    ensures { λ r. ⌜ take r (now (out .exit)) ≡ printed (now (text .entry)) ⌝ }
+{
+    if text.len() > 65536 {
+        return put_refusal(out, 13, 65536);
+    }
+    read_and_play(text, out)
+}

@@ -1,0 +1,121 @@
+// What the program prints, written into a slice of bytes: a refusal, or a line for each joint.
+use float::f32_to_bits;
+ghost use mathlib.Core.Path.{_≡_};
+ghost use mathlib.Core.List.{[], _∷_, map};
+ghost use Prim.Native.Nat.{_+_, _*_, _<_, _≤_};
+ghost use lib.ListN.{length, take, drop};
+ghost use lib.Seq.{sets};
+ghost use lib.Ieee.{binary32, toBits};
+ghost use Rattle.model.specs.Text.{overwritten};
+ghost use Rattle.model.specs.Program.{glyph, digits, places, decimalText, decimalFields, bitsFields, refusedLine, jointLine, joined};
+
+fn glyph(d: usize) -> u8
+    requires { ⌜ d < 16 ⌝ }
+    ensures { λ r. ⌜ r ≡ glyph d ⌝ }
+{
+    if d < 10 {
+        48 + d as u8
+    } else {
+        87 + d as u8
+    }
+}
+
+// The last `count` digits of n, from `at` on.
+fn put_digits(out: &mut [u8], at: usize, base: usize, count: usize, n: usize)
+    requires { ⌜ (2 ≤ base) × (base ≤ 16) × (at + count ≤ length (now out)) ⌝ }
+    ensures { λ _. ⌜ now (out .exit) ≡ sets (now (out .entry)) at (digits base count n) ⌝ }
+{
+    let mut rest = n;
+    let mut k = count;
+    while k > 0 {
+        k -= 1;
+        out[at + k] = glyph(rest % base);
+        rest /= base;
+    }
+}
+
+// How many decimal digits n has.
+fn places(n: usize) -> usize
+    ensures { λ r. ⌜ (r ≡ places 19 n) × (r ≤ 20) ⌝ }
+{
+    let mut rest = n;
+    let mut k = 1;
+    while rest >= 10 {
+        rest /= 10;
+        k += 1;
+    }
+    k
+}
+
+fn put_bytes(out: &mut [u8], at: usize, bytes: &[u8]) -> usize
+    requires { ⌜ at + length (now bytes) ≤ length (now out) ⌝ }
+    ensures { λ r. ⌜ (r ≡ at + length (now (bytes .entry))) × (now (out .exit) ≡ sets (now (out .entry)) at (now (bytes .entry))) ⌝ }
+{
+    let mut i = 0;
+    while i < bytes.len() {
+        out[at + i] = bytes[i];
+        i += 1;
+    }
+    at + i
+}
+
+// A comma and a decimal.
+fn put_decimal(out: &mut [u8], at: usize, n: usize) -> usize
+    requires { ⌜ at + 21 ≤ length (now out) ⌝ }
+    ensures { λ r. ⌜ (r ≡ at + length (decimalFields (n ∷ []))) × (now (out .exit) ≡ sets (now (out .entry)) at (decimalFields (n ∷ []))) ⌝ }
+{
+    let count = places(n);
+    out[at] = b',';
+    put_digits(out, at + 1, 10, count, n);
+    at + 1 + count
+}
+
+// A comma and a float's bits before each, for 16 floats from `from` on.
+fn put_floats(out: &mut [u8], at: usize, floats: &[f32], from: usize) -> usize
+    requires { ⌜ (at + 144 ≤ length (now out)) × (from + 16 ≤ length (now floats)) ⌝ }
+    ensures { λ r. ⌜ (r ≡ at + 144) × (now (out .exit) ≡ sets (now (out .entry)) at (bitsFields (map (toBits binary32) (take 16 (drop from (now (floats .entry))))))) ⌝ }
+{
+    let mut k = 0;
+    while k < 16 {
+        out[at + 9 * k] = b',';
+        put_digits(out, at + 9 * k + 1, 16, 8, f32_to_bits(floats[from + k]) as usize);
+        k += 1;
+    }
+    at + 144
+}
+
+pub fn put_refusal(out: &mut [u8], number: usize, place: usize) -> usize
+    requires { ⌜ 50 ≤ length (now out) ⌝ }
+    ensures { λ r. ⌜ (r ≡ length (refusedLine number place)) × (now (out .exit) ≡ overwritten (refusedLine number place) (now (out .entry))) ⌝ }
+{
+    let at = put_bytes(out, 0, b"refused");
+    let behind_number = put_decimal(out, at, number);
+    let behind_place = put_decimal(out, behind_number, place);
+    out[behind_place] = b'\n';
+    behind_place + 1
+}
+
+// Joint j's line, for the matrix that stands in the floats from 16 × j on.
+fn put_joint(out: &mut [u8], at: usize, j: usize, floats: &[f32]) -> usize
+    requires { ⌜ (j < 100) × (at + 153 ≤ length (now out)) × (16 * j + 16 ≤ length (now floats)) ⌝ }
+    ensures { λ r. ⌜ (r ≡ at + length (jointLine j (take 16 (drop (16 * j) (now (floats .entry)))))) × (r ≤ at + 153) × (now (out .exit) ≡ sets (now (out .entry)) at (jointLine j (take 16 (drop (16 * j) (now (floats .entry)))))) ⌝ }
+{
+    let behind_name = put_bytes(out, at, b"joint");
+    let behind_index = put_decimal(out, behind_name, j);
+    let behind_floats = put_floats(out, behind_index, floats, 16 * j);
+    out[behind_floats] = b'\n';
+    behind_floats + 1
+}
+
+pub fn put_joints(out: &mut [u8], count: usize, floats: &[f32]) -> usize
+    requires { ⌜ (count ≤ 64) × (153 * count ≤ length (now out)) × (16 * count ≤ length (now floats)) ⌝ }
+    ensures { λ r. ⌜ (r ≡ length (joined count (λ j. jointLine j (take 16 (drop (16 * j) (now (floats .entry))))))) × (now (out .exit) ≡ overwritten (joined count (λ j. jointLine j (take 16 (drop (16 * j) (now (floats .entry)))))) (now (out .entry))) ⌝ }
+{
+    let mut at = 0;
+    let mut j = 0;
+    while j < count {
+        at = put_joint(out, at, j, floats);
+        j += 1;
+    }
+    at
+}
