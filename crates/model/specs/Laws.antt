@@ -13,3 +13,4 @@ pub mod Steps
 pub mod Numbers
 pub mod ClipNodes
 pub mod Text
+pub mod Reading
