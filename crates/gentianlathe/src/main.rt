@@ -1,40 +1,59 @@
 // The program: reads a figure's text from standard input, starts it, and prints each joint's matrix of one frame, or the refusal.
-// `answer` does the work, on slices; here are only the reading and the writing.
-mod answer;
-
-use answer::answer;
+// `program::answer` does the work, on slices; here are only the reading and the writing.
+use program::answer;
 use libc::STDERR_FILENO;
 use libc::STDIN_FILENO;
 use libc::STDOUT_FILENO;
+ghost use Prim.Native.Nat.{_-_, _≤_};
+ghost use lib.ListN.{length};
+ghost use Rattle.gentianlathe.specs.Input.{bytesWithin};
 
 // How often reading may fail before it is given up. C's read gives no reason here, and one that a signal interrupted is worth another try.
 const MOST_FAILURES: usize = 100;
 
-// Fills `text` as far as the input goes; short reads are read on.
+// How far the input went, or that it could not be read.
 enum Input {
     Bytes(usize),
     Unreadable,
 }
 
-fn read_input(text: &mut [u8; 65537]) -> Input {
+// One read into `text` from `from` on: how many bytes came, or -1.
+fn read_part(text: &mut [u8], from: usize) -> Input
+    requires { ⌜ from ≤ length (now text) ⌝ }
+    ensures { λ r. ⌜ bytesWithin (length (now (text .entry)) - from) r ⌝ }
+{
+    let part = &mut text[from..];
+    let got = libc::read(STDIN_FILENO, part);
+    if got < 0 {
+        return Input::Unreadable;
+    }
+    Input::Bytes(io::count(got, part))
+}
+
+// Reads until `text` is full or the input ends; short reads are read on.
+fn read_input(text: &mut [u8]) -> Input
+    ensures { λ r. ⌜ bytesWithin (length (now (text .entry))) r ⌝ }
+{
     let mut done = 0;
     let mut failures = 0;
-    while done < 65537 && failures < MOST_FAILURES {
-        let part = &mut text[done..];
-        let got = libc::read(STDIN_FILENO, part);
-        if got == 0 {
-            return Input::Bytes(done);
-        }
-        if got < 0 {
-            failures += 1;
-        } else {
-            done += io::count(got, part);
+    while done < text.len() {
+        let part = read_part(text, done);
+        match part {
+            Input::Unreadable => {
+                failures += 1;
+                if failures == MOST_FAILURES {
+                    return Input::Unreadable;
+                }
+            }
+            Input::Bytes(count) => {
+                if count == 0 {
+                    return Input::Bytes(done);
+                }
+                done += count;
+            }
         }
     }
-    if failures < MOST_FAILURES {
-        return Input::Bytes(done);
-    }
-    Input::Unreadable
+    Input::Bytes(done)
 }
 
 fn main() {

@@ -1,4 +1,4 @@
-// From the bytes of a text to the bytes that are printed.
+// The program's work: from the bytes of a text to the bytes that are printed.
 use controller::frame;
 use controller::start;
 use layout::JOINT_COUNT_AT;
