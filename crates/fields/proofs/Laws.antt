@@ -1,0 +1,186 @@
+-- Digits, the run that stands at a place of a text, its number, and the field there. Assumes nothing.
+use Prim.Native.Nat.{ℕ, zero, suc, _+_, _-_, _*_, _^_, _<_, _≤_}
+use native.Mathlib.Nat.{pow-zero, pow-suc, mul-le-mul, le-mul-of-pos-right}
+use native.Mathlib.Omega.{arith}
+use mathlib.Core.Path.{_≡_, refl, sym, _∙_}
+use mathlib.Core.Bool.{Bool, true, false, cond, not, _||_}
+use mathlib.Core.List.{List, [], _∷_}
+use lib.Arith.{digits-lt}
+use lib.Dec.{leb, ltb, eqb}
+use lib.ListN.{length, getD, drop, length-drop, drop-of-length-le}
+use lib.Seq.{drop-cons, drop-drop, getD-drop}
+use borrow.Author.Tests.{lt-ltb, le-ltb, le-leb, lt-leb, ltb-true, eqb-true, eq-eqb, ne-eqb}
+use Rattle.model.specs.declared.FieldForm.{FieldForm}
+use Rattle.model.specs.declared.FieldForm.the-variants.{Decimal, Bits}
+use Rattle.model.specs.Check.{within}
+use Rattle.model.specs.Laws.Tests.{within-high}
+use Rattle.model.specs.Text.{front, digit, run, numeral, baseOf, isField, none, field, fieldIn}
+
+-- ---- a digit
+
+module _ (b : ℕ) where
+  pub digit-decimal : 48 ≤ b → b ≤ 57 → b - 48 ≡ digit b
+  unfolding digit within
+  digit-decimal l h = simp (le-leb 48 b l, le-leb b 57 h)
+
+  pub digit-letter : 97 ≤ b → b ≤ 102 → b - 87 ≡ digit b
+  unfolding digit within
+  digit-letter l h = simp (le-leb 48 b (omega arith), lt-leb b 57 (omega arith), le-leb 97 b l, le-leb b 102 h)
+
+  pub digit-below : b < 48 → 16 ≡ digit b
+  unfolding digit within
+  digit-below h = simp (lt-leb 48 b h, lt-leb 97 b (omega arith))
+
+  pub digit-between : 57 < b → b < 97 → 16 ≡ digit b
+  unfolding digit within
+  digit-between l h = simp (le-leb 48 b (omega arith), lt-leb b 57 l, lt-leb 97 b h)
+
+  pub digit-above : 102 < b → 16 ≡ digit b
+  unfolding digit within
+  digit-above l = simp (le-leb 48 b (omega arith), lt-leb b 57 (omega arith), le-leb 97 b (omega arith), lt-leb b 102 l)
+
+at-most : (t : Bool) {a b m : ℕ} → (t ≡ true → a ≤ m) → b ≤ m → cond t a b ≤ m
+at-most true p q = p refl
+at-most false p q = q
+
+pub digit-most : (b : ℕ) → digit b ≤ 16
+unfolding digit
+digit-most b =
+    at-most (within 48 b 57) (λ e. omega (arith, within-high 48 b 57 e)) (at-most (within 97 b 102) (λ e. omega (arith, within-high 97 b 102 e)) (omega arith))
+
+-- ---- a run
+
+pub run-goes-on : (base : ℕ) (s : List ℕ) (i : ℕ) → i < length s → digit (getD s i 0) < base → run base (drop i s) ≡ suc (run base (drop (suc i) s))
+unfolding run
+run-goes-on base s i h d = rw (drop-cons s i 0 h, lt-ltb _ base d)
+
+pub run-stops : (base : ℕ) (s : List ℕ) (i : ℕ) → i < length s → base ≤ digit (getD s i 0) → run base (drop i s) ≡ 0
+unfolding run
+run-stops base s i h d = rw (drop-cons s i 0 h, le-ltb _ base d)
+
+pub run-none : (base : ℕ) (s : List ℕ) (i : ℕ) → length s ≤ i → run base (drop i s) ≡ 0
+unfolding run
+run-none base s i h = rw (drop-of-length-le s h)
+
+run-length : (base : ℕ) (s : List ℕ) → run base s ≤ length s
+unfolding run
+run-length base [] = omega arith
+run-length base (b ∷ s) = at-most (ltb (digit b) base) (λ _. omega (arith, run-length base s)) (omega arith)
+
+-- a run with a digit in it ends in the text
+pub run-inside : (base : ℕ) (s : List ℕ) (at end : ℕ) → end ≡ at + run base (drop at s) → at < end → end ≤ length s
+run-inside base s at end e h = omega (arith, run-length base (drop at s), length-drop at s)
+
+run-digit : (base : ℕ) (s : List ℕ) (j : ℕ) → j < run base s → digit (getD s j 0) < base
+unfolding run
+run-digit base [] j h = absurd (omega arith)
+run-digit base (b ∷ s) j h = at (ltb (digit b) base) refl (run-digit base s) j h
+  where
+    at : (t : Bool) → ltb (digit b) base ≡ t → ((i : ℕ) → i < run base s → digit (getD s i 0) < base)
+        → (i : ℕ) → i < cond t (suc (run base s)) 0 → digit (getD (b ∷ s) i 0) < base
+    at true e later zero h = ltb-true _ _ e
+    at true e later (suc i) h = later i (omega arith)
+    at false e later i h = absurd (omega arith)
+
+-- ---- its number
+
+pub numeral-none : (base : ℕ) (s : List ℕ) (at : ℕ) → 0 ≡ numeral base (at - at) s
+unfolding numeral
+numeral-none base s at = let e : at - at ≡ 0 = omega arith in rw e
+
+pub numeral-more : (base : ℕ) (s : List ℕ) (at i value d : ℕ) → at ≤ i → value ≡ numeral base (i - at) (drop at s) → d ≡ digit (getD s i 0)
+    → value * base + d ≡ numeral base (i + 1 - at) (drop at s)
+unfolding numeral
+numeral-more base s at i value d h v e =
+    let one : i + 1 - at ≡ suc (i - at) = omega arith in
+    let back : at + (i - at) ≡ i = omega arith in
+    rw (one, getD-drop, back, v, e)
+
+numeral-grows : (base : ℕ) (s : List ℕ) (k m : ℕ) → 1 ≤ base → numeral base k s ≤ numeral base (m + k) s
+unfolding numeral
+numeral-grows base s k zero h = let e : zero + k ≡ k = omega arith in rw e (omega arith)
+numeral-grows base s k (suc m) h =
+    let e : suc m + k ≡ suc (m + k) = omega arith in
+    rw e (omega (arith, numeral-grows base s k m h, le-mul-of-pos-right (numeral base (m + k) s) h))
+
+-- a number that some of the digits write is not above that of all of them
+pub numeral-above : (base : ℕ) (s : List ℕ) (k n value most : ℕ) → 1 ≤ base → k ≤ n → value ≡ numeral base k s → most < value → most < numeral base n s
+numeral-above base s k n value most h l e m =
+    let f : n - k + k ≡ n = omega arith in
+    omega (arith, rw f at (numeral-grows base s k (n - k) h))
+
+numeral-small : (base : ℕ) (s : List ℕ) (k : ℕ) → k ≤ run base s → numeral base k s < base ^ k
+unfolding numeral
+numeral-small base s zero h = rw (pow-zero base) (omega arith)
+numeral-small base s (suc k) h = rw (pow-suc base k) (digits-lt (numeral-small base s k (omega arith)) (run-digit base s k h))
+
+-- one digit more fits 64 bits
+pub room : (value base d : ℕ) → value < 2 ^ 32 → base ≤ 16 → d ≤ 16 → value * base + d < 2 ^ 64
+room value base d v b l = let p : value ≤ 2 ^ 32 = omega arith in omega (arith, mul-le-mul p b)
+
+-- ---- the field at a place, where `end` is the place behind its run
+
+or-true : (t : Bool) → t || true ≡ true
+or-true true = refl
+or-true false = refl
+
+-- no leading zero: a 0 stands alone
+no-zero-leads : (k b : ℕ) → (b ≡ 48 → k ≡ 1) → eqb k 1 || not (eqb b 48) ≡ true
+no-zero-leads k b h = at (eqb b 48) refl
+  where
+    at : (t : Bool) → eqb b 48 ≡ t → eqb k 1 || not t ≡ true
+    at true e = rw (eq-eqb k 1 (h (eqb-true b 48 e)))
+    at false e = or-true (eqb k 1)
+
+module _ (form : FieldForm) (s : List ℕ) (at end : ℕ) (ends : end ≡ at + run (baseOf form) (drop at s)) where
+  digits : end - at ≡ run (baseOf form) (drop at s)
+  digits = omega arith
+
+  no-field : isField form (end - at) (drop at s) ≡ false → none ≡ fieldIn form (drop at s)
+  unfolding fieldIn
+  no-field e = rw (← digits, e)
+
+  is-field : (v : ℕ) → v ≡ numeral (baseOf form) (end - at) (drop at s) → isField form (end - at) (drop at s) ≡ true
+      → field v (drop end s) ≡ fieldIn form (drop at s)
+  unfolding fieldIn
+  is-field v q e = let f : at + (end - at) ≡ end = omega arith in rw (← digits, e, q, drop-drop, f)
+
+module _ (limit : ℕ) (s : List ℕ) (at end : ℕ) (ends : end ≡ at + run 10 (drop at s)) where
+  head : front (drop at s) ≡ getD s at 0
+  head = let e : at + 0 ≡ at = omega arith in rw (getD-drop, e)
+
+  pub decimal-none : end ≡ at → none ≡ fieldIn (Decimal limit) (drop at s)
+  unfolding isField
+  decimal-none e = no-field (Decimal limit) s at end ends (simp (lt-leb 1 (end - at) (omega arith)))
+
+  pub decimal-leads : at + 1 < end → getD s at 0 ≡ 48 → none ≡ fieldIn (Decimal limit) (drop at s)
+  unfolding isField
+  decimal-leads l z =
+      no-field (Decimal limit) s at end ends (simp (le-leb 1 (end - at) (omega arith), ne-eqb (end - at) 1 (λ e. omega arith), eq-eqb _ 48 (head ∙ z)))
+
+  -- past the tests of the digits the limit alone decides
+  module _ (some : end ≡ at → ⊥) (leads : getD s at 0 ≡ 48 → end ≤ at + 1) where
+    decides : isField (Decimal limit) (end - at) (drop at s) ≡ leb (numeral 10 (end - at) (drop at s)) limit
+    unfolding isField
+    decides = simp (le-leb 1 (end - at) (omega arith), no-zero-leads (end - at) (front (drop at s)) (λ z. omega (arith, leads (sym head ∙ z))))
+
+    pub decimal-above : limit < numeral 10 (end - at) (drop at s) → none ≡ fieldIn (Decimal limit) (drop at s)
+    decimal-above l = no-field (Decimal limit) s at end ends (decides ∙ lt-leb _ limit l)
+
+    pub decimal-reads : (v : ℕ) → v ≤ limit → v ≡ numeral 10 (end - at) (drop at s) → field v (drop end s) ≡ fieldIn (Decimal limit) (drop at s)
+    decimal-reads v l e = is-field (Decimal limit) s at end ends v e (decides ∙ le-leb _ limit (omega (arith, e)))
+
+module _ (s : List ℕ) (at end : ℕ) (ends : end ≡ at + run 16 (drop at s)) where
+  pub bits-none : (end - at ≡ 8 → ⊥) → none ≡ fieldIn Bits (drop at s)
+  unfolding isField
+  bits-none h = no-field Bits s at end ends (ne-eqb (end - at) 8 h)
+
+  -- eight digits fit 32 bits, so no number is above the largest of 32 bits
+  pub bits-read : (v : ℕ) → end - at ≡ 8 → (v ≤ 4294967295 → v ≡ numeral 16 (end - at) (drop at s))
+      → (4294967295 < v → 4294967295 < numeral 16 (end - at) (drop at s)) → field v (drop end s) ≡ fieldIn Bits (drop at s)
+  unfolding isField
+  bits-read v h small large =
+      let l : 8 ≤ run 16 (drop at s) = omega arith in
+      let fits : numeral 16 (end - at) (drop at s) < 16 ^ 8 = rw h (numeral-small 16 (drop at s) 8 l) in
+      let no : 4294967295 < v → ⊥ = λ m. omega (arith, large m) in
+      is-field Bits s at end ends v (small (omega arith)) (eq-eqb (end - at) 8 h)
