@@ -1,4 +1,5 @@
-// Ports controller.rs: the calls on a player. Each takes the player by value and returns it with its answer; none asks anything of its caller.
+// Ports controller.rs: the calls on a player. Each takes the player by value and returns it with its answer, but for `update_in_place`, which changes the
+// caller's; none asks anything of its caller.
 use blend_tree::synchronize::synchronize_state;
 use float::narrow;
 use layout::JOINT_COUNT_AT;
@@ -128,6 +129,13 @@ pub fn update(mut player: Player, delta: f64) -> Player
 {
     player.clock = player.clock + delta * player.speed;
     player
+}
+
+// The caller's player itself moves its clock.
+pub fn update_in_place(player: &mut Player, delta: f64)
+    ensures { λ _. ⌜ Updated (now (player .entry)) delta (now (player .exit)) ⌝ }
+{
+    *player = update(*player, delta);
 }
 
 pub fn speed(mut player: Player, v: f64) -> Player
