@@ -14,6 +14,7 @@ use Rattle.model.specs.declared.FieldForm.{FieldForm}
 use Rattle.model.specs.declared.FieldForm.the-variants.{Decimal, Bits}
 use Rattle.model.specs.Check.{within}
 use Rattle.model.specs.Laws.Tests.{within-high}
+use Rattle.model.specs.Laws.Digits.{run-length, numeral-small}
 use Rattle.model.specs.Text.{front, digit, run, numeral, baseOf, isField, none, field, fieldIn}
 
 -- ---- a digit
@@ -62,25 +63,9 @@ pub run-none : (base : ℕ) (s : List ℕ) (i : ℕ) → length s ≤ i → run 
 unfolding run
 run-none base s i h = rw (drop-of-length-le s h)
 
-run-length : (base : ℕ) (s : List ℕ) → run base s ≤ length s
-unfolding run
-run-length base [] = omega arith
-run-length base (b ∷ s) = at-most (ltb (digit b) base) (λ _. omega (arith, run-length base s)) (omega arith)
-
 -- a run with a digit in it ends in the text
 pub run-inside : (base : ℕ) (s : List ℕ) (at end : ℕ) → end ≡ at + run base (drop at s) → at < end → end ≤ length s
 run-inside base s at end e h = omega (arith, run-length base (drop at s), length-drop at s)
-
-run-digit : (base : ℕ) (s : List ℕ) (j : ℕ) → j < run base s → digit (getD s j 0) < base
-unfolding run
-run-digit base [] j h = absurd (omega arith)
-run-digit base (b ∷ s) j h = at (ltb (digit b) base) refl (run-digit base s) j h
-  where
-    at : (t : Bool) → ltb (digit b) base ≡ t → ((i : ℕ) → i < run base s → digit (getD s i 0) < base)
-        → (i : ℕ) → i < cond t (suc (run base s)) 0 → digit (getD (b ∷ s) i 0) < base
-    at true e later zero h = ltb-true _ _ e
-    at true e later (suc i) h = later i (omega arith)
-    at false e later i h = absurd (omega arith)
 
 -- ---- its number
 
@@ -108,11 +93,6 @@ pub numeral-above : (base : ℕ) (s : List ℕ) (k n value most : ℕ) → 1 ≤
 numeral-above base s k n value most h l e m =
     let f : n - k + k ≡ n = omega arith in
     omega (arith, rw f at (numeral-grows base s k (n - k) h))
-
-numeral-small : (base : ℕ) (s : List ℕ) (k : ℕ) → k ≤ run base s → numeral base k s < base ^ k
-unfolding numeral
-numeral-small base s zero h = rw (pow-zero base) (omega arith)
-numeral-small base s (suc k) h = rw (pow-suc base k) (digits-lt (numeral-small base s k (omega arith)) (run-digit base s k h))
 
 -- one digit more fits 64 bits
 pub room : (value base d : ℕ) → value < 2 ^ 32 → base ≤ 16 → d ≤ 16 → value * base + d < 2 ^ 64

@@ -12,5 +12,6 @@ pub mod Passed
 pub mod Steps
 pub mod Numbers
 pub mod ClipNodes
+pub mod Digits
 pub mod Text
 pub mod Reading

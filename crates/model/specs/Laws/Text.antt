@@ -1,7 +1,6 @@
 -- Laws of reading: what a line's values are bounded by, and that every reading uses up text.
 use Prim.Native.Nat.{ℕ, zero, suc, _+_, _-_, _*_, _≤_, _<_, _^_}
 use native.Mathlib.Omega.{arith}
-use native.Mathlib.Nat.{pow-suc}
 use mathlib.Core.Path.{_≡_, refl, sym, ap, _∙_, subst}
 use mathlib.Core.Bool.{Bool, true, false, cond, not, _&&_, _||_}
 use mathlib.Core.List.{List, [], _∷_, _++_}
@@ -16,6 +15,7 @@ use Rattle.model.specs.declared.FieldForm.the-variants.{Decimal, Bits}
 use Rattle.model.specs.Plan.{jointCount, clipCount, stateCount}
 use Rattle.model.specs.Text.{front, comma, lineFeed, digit, run, numeral, baseOf, isField, Field, none, field, fieldIn, maxWord, name, limits, bitsCount, decimalCount, fieldCount, formOf, Line, malformed, line, withField, fieldThen, lastFields, begins, lineIn, Reading, bad, got, prefixed, andThen, times, fromLine, readLine, fromState, readState, readEnd, poseCount, readFigure}
 use Rattle.model.specs.Laws.Tests.{and-left, and-right}
+use Rattle.model.specs.Laws.Digits.{run-length, numeral-small}
 
 -- ---- a field
 
@@ -28,30 +28,6 @@ abbrev pub leastBytes : FieldForm → ℕ
 leastBytes (Decimal limit) = 1
 leastBytes Bits = 8
 
-run-inside : (base : ℕ) (s : List ℕ) → run base s ≤ length s
-unfolding run
-run-inside base [] = omega arith
-run-inside base (b ∷ s) = go (ltb (digit b) base) (run-inside base s)
-  where
-    go : (t : Bool) → run base s ≤ length s → cond t (suc (run base s)) 0 ≤ suc (length s)
-    go true h = omega arith
-    go false h = omega arith
-
-digits-below : (s : List ℕ) (k : ℕ) → k < run 16 s → digit (getD s k 0) < 16
-unfolding run
-digits-below [] k h = absurd (omega arith)
-digits-below (b ∷ s) k h = go k (ltb (digit b) 16) refl h (digits-below s)
-  where
-    go : (k : ℕ) (t : Bool) → ltb (digit b) 16 ≡ t → k < cond t (suc (run 16 s)) 0 → ((k : ℕ) → k < run 16 s → digit (getD s k 0) < 16) → digit (getD (b ∷ s) k 0) < 16
-    go zero true e h later = ltb-true _ _ e
-    go (suc k) true e h later = later k (omega arith)
-    go k false e h later = absurd (omega arith)
-
-numeral-below : (s : List ℕ) (k : ℕ) → k ≤ run 16 s → numeral 16 k s < 16 ^ k
-unfolding numeral
-numeral-below s zero h = omega arith
-numeral-below s (suc k) h = rw (pow-suc 16 k) (omega (arith, numeral-below s k (omega arith), digits-below s k (omega arith)))
-
 pub record FieldLaw (form : FieldForm) (s : List ℕ) (v : ℕ) (rest : List ℕ) : Type 0 where
   pub most : v ≤ mostOf form
   pub spent : leastBytes form + length rest ≤ length s
@@ -60,14 +36,14 @@ pub record FieldLaw (form : FieldForm) (s : List ℕ) (v : ℕ) (rest : List ℕ
 field-of-run : (form : FieldForm) (s : List ℕ) (k : ℕ) → k ≡ run (baseOf form) s → isField form k s ≡ true → FieldLaw form s (numeral (baseOf form) k s) (drop k s)
 unfolding isField
 field-of-run (Decimal limit) s k e ok =
-    let h = run-inside 10 s in
+    let h = run-length 10 s in
     let lead = eqb k 1 || not (eqb (front s) 48) in
     let some = leb-true 1 k (and-left (leb 1 k) lead (and-left (leb 1 k && lead) (leb (numeral 10 k s) limit) ok)) in
     record { most = leb-true (numeral 10 k s) limit (and-right (leb 1 k && lead) (leb (numeral 10 k s) limit) ok); spent = omega (arith, length-drop k s, e, h, some) }
 field-of-run Bits s k e ok =
-    let h = run-inside 16 s in
+    let h = run-length 16 s in
     let l : k ≡ 8 = eqb-true k 8 ok in
-    let m : numeral 16 k s < 16 ^ k = numeral-below s k (omega (arith, e)) in
+    let m : numeral 16 k s < 16 ^ k = numeral-small 16 s k (omega (arith, e)) in
     let n : 16 ^ k ≡ 4294967296 = ap (λ (i : ℕ). 16 ^ i) l in
     record { most = omega (arith, m, n); spent = omega (arith, length-drop k s, e, h, l) }
 

@@ -1,0 +1,63 @@
+-- What writing a figure and reading it have to do with each other. Definitions only: the theorems are Theorems.antt.
+use Prim.Native.Nat.{ℕ, _+_, _*_, _≤_}
+use mathlib.Core.Path.{_≡_}
+use mathlib.Core.Bool.{cond}
+use mathlib.Core.List.{List, [], map}
+use lib.ListN.{length}
+use lib.Ieee.{Float, binary32, toBits, nanBits}
+use Rattle.model.specs.Text.{Reading, bad, got, readFigure, floatsOf}
+use Rattle.model.specs.Program.{figureText}
+use Rattle.model.specs.Answers.{Verdict, accepted, refused}
+use Rattle.round_trip.specs.Counted.{Counted}
+
+-- reading gives back what was written, with no text left
+pub record Reads (text plan bits : List ℕ) : Type 0 where
+  pub lines : ℕ
+  pub reading : readFigure text ≡ got plan bits [] lines
+
+-- an accepted text is the one that is written for what it reads to
+pub record Writes (text plan bits rest : List ℕ) : Type 0 where
+  pub counted : Counted plan bits
+  pub written : text ≡ figureText plan bits
+  pub ended : rest ≡ []
+
+-- ---- the same for floats, whose text is that of their bits
+
+abbrev pub floatsText : List ℕ → List Float → List ℕ
+floatsText plan numbers = figureText plan (map (toBits binary32) numbers)
+
+pub record ReadsFloats (text plan : List ℕ) (numbers : List Float) : Type 0 where
+  pub bits : List ℕ
+  pub reads : Reads text plan bits
+  pub floats : floatsOf bits ≡ numbers
+
+-- the pattern that is written for a pattern's float: every NaN as 7fc00000
+unfoldable pub canonical : ℕ → ℕ
+canonical b = cond (nanBits binary32 b) 0x7fc00000 b
+
+-- an accepted text is that of its floats but for NaN patterns, and their text is read to the same words and floats
+pub record WritesFloats (text plan bits : List ℕ) : Type 0 where
+  pub written : text ≡ figureText plan bits
+  pub rewritten : floatsText plan (floatsOf bits) ≡ figureText plan (map canonical bits)
+  pub again : ReadsFloats (floatsText plan (floatsOf bits)) plan (floatsOf bits)
+
+-- ---- how much text a reading takes
+
+-- of m bytes: the bad line's number is at most one more; otherwise a line takes at least a byte, a word two and a number's bits nine
+abbrev pub Within : ℕ → Reading → Type 0
+Within m (bad line) = line ≤ m + 1
+Within m (got ws bs rest lines) = lines + 2 * length ws + 9 * length bs + length rest ≤ m
+
+abbrev pub Spends : List ℕ → Reading → Type 0
+Spends s x = Within (length s) x
+
+-- ---- refusals
+
+-- a refusal that is about what words say: 2 to 5. The others of a start, 1, 6 and 7, are about lengths
+pub record OfContent (number : ℕ) : Type 0 where
+  pub some : 2 ≤ number
+  pub most : number ≤ 5
+
+unfoldable pub ofContent : Verdict → Type 0
+ofContent accepted = Unit {0}
+ofContent (refused number place rest) = OfContent number
