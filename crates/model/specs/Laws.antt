@@ -15,3 +15,4 @@ pub mod ClipNodes
 pub mod Digits
 pub mod Text
 pub mod Reading
+pub mod Output

@@ -18,3 +18,4 @@ pub mod Promises
 -- what follows from them
 pub mod Laws
 pub mod Bench
+pub mod BenchText

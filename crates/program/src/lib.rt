@@ -1,4 +1,7 @@
 // The program's work: from the bytes of a text to the bytes that are printed.
+
+use printing::put_joints;
+use printing::put_refusal;
 use controller::frame;
 use controller::start;
 use layout::JOINT_COUNT_AT;
@@ -6,8 +9,6 @@ use layout::word;
 use model::Answer;
 use model::Player;
 use model::TextAnswer;
-use printing::put_joints;
-use printing::put_refusal;
 ghost use mathlib.Core.Path.{_≡_};
 ghost use Prim.Native.Nat.{_≤_};
 ghost use lib.ListN.{length, take};
@@ -48,13 +49,14 @@ fn read_and_play(text: &[u8], out: &mut [u8]) -> usize
     ensures { λ r. ⌜ (r ≡ length (printed (now (text .entry)))) × (now (out .exit) ≡ overwritten (printed (now (text .entry))) (now (out .entry))) ⌝ }
 {
     let mut plan = [0u16; 32768];
-    let mut numbers = [0.0f32; 7282];
+    let mut numbers = [0.0f32; 7281];
     let read = text::read(text, &mut plan, &mut numbers);
     match read {
         TextAnswer::Refused { number, place } => put_refusal(out, number, place),
-        TextAnswer::Accepted { words, numbers: count } => {
-            play(&plan[..words], &numbers[..count], out)
-        }
+        TextAnswer::Accepted {
+            words,
+            numbers: count,
+        } => play(&plan[..words], &numbers[..count], out),
     }
 }
 

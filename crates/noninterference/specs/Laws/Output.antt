@@ -1,50 +1,29 @@
 -- A trace of calls that keep their promises shows what the run by definition shows.
-use Prim.Native.Nat.{ℕ, zero, suc, _+_, _*_, _<_}
+use Prim.Native.Nat.{ℕ}
 use native.Mathlib.Omega.{arith}
 use mathlib.Core.Path.{_≡_, refl, sym, ap, ap₂, _∙_}
-use mathlib.Core.List.{List, [], _∷_, _++_, map, append-assoc}
-use lib.ListN.{length, getD, take, drop, length-map}
-use lib.Seq.{drop-append-add}
+use mathlib.Core.List.{List, [], _∷_, map}
+use lib.ListN.{length, getD, take, drop}
 use lib.Ieee.{Float}
-use Rattle.model.specs.declared.Matrix4.{Matrix4}
 use Rattle.model.specs.declared.Player.{Player}
 use Rattle.model.specs.declared.Outcome.{Outcome}
 use Rattle.model.specs.Rotations.{identityMatrix, floats}
 use Rattle.model.specs.Answers.{Verdict, accepted, refused, values, unlessRefused}
 use Rattle.model.specs.Plan.{jointCount, outputAt}
 use Rattle.model.specs.Controller.{blank, fresh, frameVerdict}
-use Rattle.model.specs.Skeleton.{jointMatrices, pageMatrix, flat, written}
+use Rattle.model.specs.Skeleton.{written}
 use Rattle.model.specs.Run.{startVerdict, startPlayer, FrameKind, ordinary, page, shown, frameMatrices, Update, Speed, Set, Frame, callVerdict, changed, after, chosenFloats, Observation, observation, runFrom, run}
 use Rattle.model.specs.Promises.{Updated, SpeedSet, ParameterSet, Framed}
-use Rattle.model.specs.Laws.Table.{table-length}
+use Rattle.model.specs.Laws.Output.{matrix-at, frame-length}
 use Rattle.noninterference.specs.Alike.{Closed}
 use Rattle.noninterference.specs.Trace.{Event, Trace, end, update, setSpeed, setParameter, frame, Session, calls, outputFloats, observed}
 use Rattle.noninterference.specs.Laws.Lists.{map-same}
 
--- ---- matrix j in the output
-
-at-matrix : (ms : List Matrix4) (rest : List Float) (j : ℕ) → j < length ms → take 16 (drop (outputAt j) (flat ms ++ rest)) ≡ floats (getD ms j identityMatrix)
-unfolding flat floats
-at-matrix [] rest j h = absurd (omega arith)
-at-matrix (m ∷ ms) rest zero h = refl
-at-matrix (m ∷ ms) rest (suc j) h =
-    let q : 16 * suc j ≡ 16 + 16 * j = omega arith in
-    ap (λ (n : ℕ). take 16 (drop n (flat (m ∷ ms) ++ rest))) q ∙ ap (take 16) (ap (drop (16 + 16 * j)) (append-assoc (floats m) (flat ms) rest) ∙ drop-append-add (floats m) (flat ms ++ rest) (16 * j)) ∙ at-matrix ms rest j (omega arith)
-
-shown-length : (kind : FrameKind) (ms : List Matrix4) → length (shown kind ms) ≡ length ms
-unfolding shown
-shown-length ordinary ms = refl
-shown-length page ms = length-map ms pageMatrix
-
 module _ (plan chosen : List ℕ) (numbers : List Float) (closed : Closed plan chosen) where
-  frame-length : (p : Player) (ext : Float) (kind : FrameKind) → length (frameMatrices plan numbers p ext kind) ≡ jointCount plan
-  unfolding frameMatrices jointMatrices
-  frame-length p ext kind = shown-length kind _ ∙ table-length _ (jointCount plan)
-
   frame-floats : (p : Player) (ext : Float) (kind : FrameKind) (old : List Float)
       → map (λ j. take 16 (drop (outputAt j) (written plan (frameMatrices plan numbers p ext kind) old))) chosen ≡ map (λ j. floats (getD (frameMatrices plan numbers p ext kind) j identityMatrix)) chosen
   unfolding written
-  frame-floats p ext kind old = map-same _ _ chosen (λ j m. at-matrix (frameMatrices plan numbers p ext kind) _ j (omega (arith, frame-length p ext kind, closed .are-joints j m)))
+  frame-floats p ext kind old = map-same _ _ chosen (λ j m. matrix-at (frameMatrices plan numbers p ext kind) _ j (omega (arith, frame-length plan numbers p ext kind, closed .are-joints j m)))
 
   -- an accepted frame's are read from the output; a refused one shows none
   frame-observed : (v : Verdict) (p q : Player) (ext : Float) (kind : FrameKind) (old : List Float)

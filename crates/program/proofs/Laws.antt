@@ -1,0 +1,150 @@
+-- What the program's parts come to, over plain values. Assumes nothing.
+use Prim.Native.Nat.{ℕ, zero, suc, _+_, _*_, _≤_, _<_}
+use native.Mathlib.Omega.{arith}
+use mathlib.Core.Path.{_≡_, refl, sym, ap, _∙_}
+use mathlib.Core.List.{List, [], _∷_, _++_, append-assoc}
+use lib.ListN.{length, getD, take, drop, length-append, length-map}
+use lib.Seq.{drop-append-add, take-append-seam}
+use lib.Ieee.{Float, binary32, ofBits}
+use borrow.Author.Tests.{lt-ltb, le-ltb, le-leb}
+use Rattle.model.specs.declared.Matrix4.{Matrix4}
+use Rattle.model.specs.declared.Outcome.{Outcome}
+use Rattle.model.specs.declared.Player.{Player}
+use Rattle.model.specs.declared.Answer.the-variants as answer
+use Rattle.model.specs.declared.TextAnswer.{TextAnswer}
+use Rattle.model.specs.declared.TextAnswer.the-variants as text-answer
+use Rattle.model.specs.Numbers.{0f}
+use Rattle.model.specs.Answers.{accepted, values, _then_, require, unlessRefused}
+use Rattle.model.specs.Rotations.{identityMatrix, floats}
+use Rattle.model.specs.Plan.{jointCountAt, word, jointCount, stateCount, initialState, outputAt}
+use Rattle.model.specs.Controller.{blank, fresh, isTargetBelow, frameVerdict}
+use Rattle.model.specs.Skeleton.{jointMatrices, flat, written}
+use Rattle.model.specs.Text.{Reading, bad, got, readFigure, floatsOf, overwritten, readWords, readFloats, textValues, textVerdict, whenAccepted}
+use Rattle.model.specs.Text as text
+use Rattle.model.specs.Run.{startVerdict, startPlayer, ordinary, shown, frameMatrices}
+use Rattle.model.specs.Program.{refusedLine, joined, jointLine, played, printedFrom, maxText, printed}
+use Rattle.model.specs.Promises.{Started, Framed, TextRead}
+use Rattle.model.specs.Laws.Output.{matrix-at, frame-length}
+use Rattle.model.specs.Laws.Passed.{initial-below, few-joints}
+use Rattle.model.specs.Laws.Reading.{figure-fits}
+
+-- ---- one frame
+
+-- equal lines make equal text
+joined-same : (n : ℕ) (f g : ℕ → List ℕ) → ((j : ℕ) → j < n → f j ≡ g j) → joined n f ≡ joined n g
+unfolding joined
+joined-same zero f g same = refl
+joined-same (suc n) f g same = rw (joined-same n f g (λ j h. same j (omega arith)), same n (omega arith))
+
+module _ (plan : List ℕ) (numbers : List Float) (started : startVerdict plan numbers ≡ accepted) where
+  pub few-shown : word plan jointCountAt ≤ 64
+  unfolding startVerdict jointCount
+  few-shown = few-joints plan (length numbers) started
+
+  -- no frame of a figure that started is refused, if there is room for 64 joints
+  fresh-accepted : (n : ℕ) → 1024 ≤ n → frameVerdict plan numbers (fresh plan numbers) n ≡ accepted
+  unfolding startVerdict frameVerdict jointCount fresh blank isTargetBelow _then_ require
+  fresh-accepted n room =
+      let below = lt-ltb (initialState plan) (stateCount plan) (initial-below plan (length numbers) started) in
+      rw (started, below, le-leb (outputAt (jointCount plan)) n (omega (arith, few-shown)))
+
+  -- the lines of that frame's floats are what is to be printed
+  pub frame-lines : (p : Player) (count : ℕ) (old new : List Float) (r : Outcome) → p ≡ fresh plan numbers → count ≡ word plan jointCountAt → 1024 ≤ length old
+      → Framed ordinary plan numbers p 0f old new r → joined count (λ j. jointLine j (take 16 (drop (16 * j) new))) ≡ played plan numbers accepted
+  unfolding played jointCount written unlessRefused
+  frame-lines p count old new r e n room done =
+      let ms = frameMatrices plan numbers (fresh plan numbers) 0f ordinary in
+      let o : new ≡ written plan ms old = rw (e, fresh-accepted (length old) room) at (done .output) in
+      rw (n, o) (joined-same (jointCount plan) _ _ (λ j h. ap (jointLine j) (matrix-at ms _ j (omega (arith, frame-length plan numbers (fresh plan numbers) 0f ordinary)))))
+
+-- ---- a start
+
+module _ (plan : List ℕ) (numbers : List Float) (r : Outcome) (done : Started plan numbers r) where
+  pub refusal-played : (n p : ℕ) → r .answer ≡ answer.Refused n p → refusedLine n p ≡ played plan numbers (startVerdict plan numbers)
+  unfolding values played
+  refusal-played n p e = rw (← done .answer, e)
+
+  module _ (e : r .answer ≡ answer.Accepted) where
+    pub start-accepted : startVerdict plan numbers ≡ accepted
+    unfolding values
+    start-accepted = sym (done .answer) ∙ ap values e
+
+    pub player-fresh : r .player ≡ fresh plan numbers
+    unfolding startPlayer unlessRefused
+    player-fresh = rw start-accepted at (done .player)
+
+-- ---- a text
+
+-- what was put in front of a buffer
+module _ {A : Type 0} (new old : List A) where
+  front-length : length new ≤ length (overwritten new old)
+  unfolding overwritten
+  front-length = omega (arith, length-append new (drop (length new) old))
+
+  front-is : take (length new) (overwritten new old) ≡ new
+  unfolding overwritten
+  front-is = take-append-seam new (drop (length new) old)
+
+-- what was printed stands in the front of the buffer, so it fits
+pub printed-front : (lines old after wanted : List ℕ) (r : ℕ) → lines ≡ wanted → (r ≡ length lines) × (after ≡ overwritten lines old)
+    → ((r ≤ length after) × (r ≡ length (take r after))) × (take r after ≡ wanted)
+printed-front lines old after wanted r e put =
+    rw (put .0, put .1) ((front-length lines old, sym (ap length (front-is lines old))), front-is lines old ∙ e)
+
+pub printed-long : (s : List ℕ) → maxText < length s → refusedLine 13 maxText ≡ printed s
+unfolding printed
+printed-long s h = rw (lt-ltb maxText (length s) h)
+
+-- the figure in the front of both slices prints what the text does
+pub record FigureRead (s plan : List ℕ) (numbers : List Float) (words count : ℕ) : Type 0 where
+  pub words-there : words ≤ length plan
+  pub numbers-there : count ≤ length numbers
+  pub lines : played (take words plan) (take count numbers) (startVerdict (take words plan) (take count numbers)) ≡ printed s
+
+module _ (s planOld planNew : List ℕ) (numbersOld numbersNew : List Float) (r : TextAnswer) (done : TextRead s planOld planNew numbersOld numbersNew r)
+    (short : length s ≤ maxText) (words-room : 32768 ≤ length planOld) (numbers-room : 7281 ≤ length numbersOld) where
+  printed-short : printed s ≡ printedFrom (readFigure s)
+  unfolding printed
+  printed-short = rw (le-ltb maxText (length s) short)
+
+  -- no figure is refused for the length of the slices
+  room-enough : (ws bs rest : List ℕ) (n : ℕ) → readFigure s ≡ got ws bs rest n
+      → textVerdict (readFigure s) (length planOld) (length numbersOld) ≡ text.accepted (length ws) (length bs)
+  unfolding textVerdict
+  room-enough ws bs rest n e =
+      let fits : 2 * length ws + 9 * length bs ≤ length s = figure-fits s ws bs rest n e in
+      rw (e, le-leb (length ws) (length planOld) (omega arith), le-leb (length bs) (length numbersOld) (omega arith))
+
+  pub refusal-printed : (n p : ℕ) → r ≡ text-answer.Refused n p → refusedLine n p ≡ printed s
+  unfolding textValues textVerdict printedFrom
+  refusal-printed n p e = rw printed-short (go (readFigure s) refl)
+    where
+      go : (x : Reading) → readFigure s ≡ x → refusedLine n p ≡ printedFrom x
+      go (bad m) t =
+          let v : text.refused n p 0 ≡ text.refused 11 m 0 = rw (e, t) at (done .answer) in
+          cc
+      go (got ws bs rest m) t =
+          let v : text.refused n p 0 ≡ text.accepted (length ws) (length bs) = rw e at (done .answer) ∙ room-enough ws bs rest m t in
+          cc
+
+  pub figure-read : (words count : ℕ) → r ≡ text-answer.Accepted words count → FigureRead s planNew numbersNew words count
+  unfolding textValues textVerdict whenAccepted readWords readFloats printedFrom
+  figure-read words count e = go (readFigure s) refl
+    where
+      go : (x : Reading) → readFigure s ≡ x → FigureRead s planNew numbersNew words count
+      go (bad m) t =
+          let v : text.accepted words count ≡ text.refused 11 m 0 = rw (e, t) at (done .answer) in
+          let z : _≡_ {A = ℕ} 0 1 = cc in
+          absurd (omega arith)
+      go (got ws bs rest m) t =
+          let enough = room-enough ws bs rest m t in
+          let v : text.accepted words count ≡ text.accepted (length ws) (length bs) = rw e at (done .answer) ∙ enough in
+          let n : words ≡ length ws = cc in
+          let k : count ≡ length (floatsOf bs) = cc (length-map bs (ofBits binary32)) in
+          let p : planNew ≡ overwritten ws planOld = rw (enough, t) at (done .plan) in
+          let q : numbersNew ≡ overwritten (floatsOf bs) numbersOld = rw (enough, t) at (done .numbers) in
+          record {
+            words-there = rw (n, p) (front-length ws planOld);
+            numbers-there = rw (k, q) (front-length (floatsOf bs) numbersOld);
+            lines = rw (n, p, k, q, front-is ws planOld, front-is (floatsOf bs) numbersOld, printed-short, t);
+          }

@@ -1,0 +1,27 @@
+-- `program::play` meets its contract: a start that is refused is printed as such, and an accepted one hands over a fresh player. Assumes nothing.
+use borrow.Author.Needs.{needs}
+use Rattle.program.proofs.Laws.{refusal-played, start-accepted, player-fresh}
+use Rattle.program.proofs.play.Statement.{statement}
+use Rattle.program.proofs.play.Tie as tie
+
+show-requires : tie.Need-show-requires
+show-requires c κs =
+    let t = c .before .before in
+    let b = t .before .before in
+    let e = t .enum-told .given .1 in
+    (start-accepted _ _ _ (b .start .ensures) e, player-fresh _ _ _ (b .start .ensures) e, search needs)
+
+returns : tie.Need-returns
+returns c =
+    let p = c .before .before in
+    let t = p .before .before .before in
+    rw (refusal-played _ _ _ (t .before .before .start .ensures) _ _ (t .started .given .1)) at (p .put-refusal .ensures)
+
+returns-2 : tie.Need-returns-2
+returns-2 c =
+    let s = c .before .before in
+    let t = s .before .before .before in
+    rw (start-accepted _ _ _ (t .before .before .start .ensures) (t .enum-told .given .1)) (s .show .ensures)
+
+pub play-spec : {M : Type 1} → statement M
+play-spec = tie.close (tie.spec (search needs) (search needs) (search needs) (search needs) show-requires (search needs) returns (search needs) returns-2)
