@@ -2,7 +2,7 @@
 use libc::STDOUT_FILENO;
 use program::answer;
 use std::num::wrapping_add_u64;
-ghost use Prim.Native.Nat.{_<_};
+ghost use Prim.Native.Nat.{_<_, _≤_};
 ghost use lib.ListN.{length};
 
 // h × 0x100000001b3, wrapping: the prime is 2^40 + 435.
@@ -13,12 +13,16 @@ fn times_prime(h: u64) -> u64 {
     wrapping_add_u64(wrapping_add_u64(low, high), shifted)
 }
 
+fn wide(b: u8) -> u64 {
+    b as u64
+}
+
 // FNV-1a.
 fn hash(bytes: &[u8]) -> u64 {
     let mut h: u64 = 0xcbf2_9ce4_8422_2325;
     let mut i = 0;
     while i < bytes.len() {
-        h = times_prime(h ^ bytes[i] as u64);
+        h = times_prime(h ^ wide(bytes[i]));
         i += 1;
     }
     h
@@ -40,31 +44,40 @@ fn print_change(i: usize, v: usize, output: &[u8], h: u64) {
     io::write_all(STDOUT_FILENO, b"\n");
 }
 
+// The hash of the output, which is printed where it is not `last`, or `always`.
+fn print_damage(text: &[u8], size: usize, i: usize, v: usize, always: bool, last: u64) -> u64
+    requires { ⌜ size ≤ length (now text) ⌝ }
+{
+    let mut out = [0u8; 9792];
+    let length = answer(&text[..size], &mut out);
+    let h = hash(&out[..length]);
+    if always || h != last {
+        print_change(i, v, &out[..length], h);
+    }
+    h
+}
+
 // Each byte in the place of byte i; a line where the output is not that of the byte before.
-fn print_position(text: &mut [u8], i: usize)
-    requires { ⌜ i < length (now text) ⌝ }
+fn print_position(text: &mut [u8], size: usize, i: usize)
+    requires { ⌜ (size ≤ length (now text)) × (i < size) ⌝ }
 {
     let original = text[i];
     let mut last: u64 = 0;
     let mut v = 0;
     while v < 256 {
         text[i] = v as u8;
-        let mut out = [0u8; 9792];
-        let length = answer(text, &mut out);
-        let h = hash(&out[..length]);
-        if v == 0 || h != last {
-            print_change(i, v, &out[..length], h);
-        }
-        last = h;
+        last = print_damage(text, size, i, v, v == 0, last);
         v += 1;
     }
     text[i] = original;
 }
 
-pub fn print_damaged(text: &mut [u8]) {
+pub fn print_damaged(text: &mut [u8], size: usize)
+    requires { ⌜ size ≤ length (now text) ⌝ }
+{
     let mut i = 0;
-    while i < text.len() {
-        print_position(text, i);
+    while i < size {
+        print_position(text, size, i);
         i += 1;
     }
 }

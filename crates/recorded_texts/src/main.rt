@@ -9,6 +9,8 @@ use libc::STDIN_FILENO;
 use libc::STDOUT_FILENO;
 use model::FieldForm;
 use program::answer;
+ghost use Prim.Native.Nat.{_≤_};
+ghost use lib.ListN.{length};
 
 // The number of bytes that a header names from `at` on; more than any case has where it names none.
 fn size_at(header: [u8; 16], at: usize) -> usize {
@@ -19,19 +21,39 @@ fn size_at(header: [u8; 16], at: usize) -> usize {
     }
 }
 
+// Reads `size` bytes into the front of `text`; false where the input ends before.
+fn read_front(text: &mut [u8], size: usize) -> bool
+    requires { ⌜ size ≤ length (now text) ⌝ }
+{
+    io::read_full(STDIN_FILENO, &mut text[..size]) == size
+}
+
+fn write_front(bytes: &[u8], size: usize)
+    requires { ⌜ size ≤ length (now bytes) ⌝ }
+{
+    io::write_all(STDOUT_FILENO, &bytes[..size]);
+}
+
+fn print_answer(text: &[u8], size: usize)
+    requires { ⌜ size ≤ length (now text) ⌝ }
+{
+    let mut out = [0u8; 9792];
+    let length = answer(&text[..size], &mut out);
+    io::write_all(STDOUT_FILENO, &out[..length]);
+}
+
 fn run_text(header: [u8; 16]) -> bool {
     let size = size_at(header, 5);
     if 65537 < size {
         return false;
     }
     let mut text = [0u8; 65537];
-    if io::read_full(STDIN_FILENO, &mut text[..size]) != size {
+    if !read_front(&mut text, size) {
         return false;
     }
-    io::write_all(STDOUT_FILENO, &header[..14]);
-    let mut out = [0u8; 9792];
-    let length = answer(&text[..size], &mut out);
-    io::write_all(STDOUT_FILENO, &out[..length])
+    write_front(&header, 14);
+    print_answer(&text, size);
+    true
 }
 
 fn run_damage(header: [u8; 16]) -> bool {
@@ -40,11 +62,11 @@ fn run_damage(header: [u8; 16]) -> bool {
         return false;
     }
     let mut text = [0u8; 1024];
-    if io::read_full(STDIN_FILENO, &mut text[..size]) != size {
+    if !read_front(&mut text, size) {
         return false;
     }
-    io::write_all(STDOUT_FILENO, &header);
-    print_damaged(&mut text[..size]);
+    write_front(&header, 16);
+    print_damaged(&mut text, size);
     true
 }
 
@@ -57,9 +79,12 @@ fn run_case() -> bool {
     if header[0] != b'd' {
         return run_text(header);
     }
-    if io::read_full(STDIN_FILENO, &mut header[14..]) != 2 {
+    let mut rest = [0u8; 2];
+    if io::read_full(STDIN_FILENO, &mut rest) != 2 {
         return false;
     }
+    header[14] = rest[0];
+    header[15] = rest[1];
     run_damage(header)
 }
 

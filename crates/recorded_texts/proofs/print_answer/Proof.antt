@@ -1,0 +1,19 @@
+use mathlib.Core.Path.{sym}
+use lib.Seq.{length-take-le}
+use borrow.Author.Needs.{needs}
+use Rattle.recorded_texts.proofs.print_answer.Statement.{statement}
+use Rattle.recorded_texts.proofs.print_answer.Tie as tie
+
+slice-aggregate-answer : tie.Need-slice-aggregate-answer
+slice-aggregate-answer c = sym (length-take-le _ _ (search needs))
+
+pub print-answer-spec : {M : Type 1} → statement M
+print-answer-spec =
+    tie.close
+    (tie.spec
+    slice-aggregate-answer
+    (search needs)
+    (search needs)
+    (search needs)
+    (search needs)
+    (search needs))
