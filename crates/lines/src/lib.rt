@@ -4,10 +4,11 @@ use fields::read_field;
 use model::FieldForm;
 use model::LineKind;
 ghost use mathlib.Core.Path.{_≡_};
-ghost use mathlib.Core.List.{[], _∷_};
-ghost use Prim.Native.Nat.{_<_};
+ghost use mathlib.Core.Bool.{cond};
+ghost use Prim.Native.Nat.{_-_, _≤_};
 ghost use lib.ListN.{length, getD, take, drop};
-ghost use Rattle.model.specs.Text.{limits, decimalCount, bitsCount, fieldCount, formOf, name, begins, lastFields, lineIn};
+ghost use Rattle.model.specs.Text.{decimalCount, bitsCount, fieldCount, formOf, name, begins, lastFields, lineIn};
+ghost use Rattle.lines.specs.LineForm.{lineForm};
 ghost use Rattle.lines.specs.Found.{lineFound};
 
 // The place behind a line's LF.
@@ -24,132 +25,72 @@ fn byte(text: &[u8], at: usize) -> u8
 
 // ---- the forms of lines
 
+// A kind's name and its length, the upper limits of its decimals and how many these are, and how many float bits follow. Zeros fill up the arrays.
+struct LineForm([u8; 6], usize, [u16; 5], usize, usize);
+
+fn line_form(kind: LineKind) -> LineForm
+    ensures { λ r. ⌜ r ≡ lineForm kind ⌝ }
+{
+    match kind {
+        LineKind::Figure => LineForm(*b"figure", 6, [64, 16, 32, 16, 65535], 5, 0),
+        LineKind::Joint => LineForm(*b"joint\0", 5, [65535, 0, 0, 0, 0], 1, 0),
+        LineKind::Clip => LineForm(*b"clip\0\0", 4, [4096, 0, 0, 0, 0], 1, 1),
+        LineKind::State => LineForm(*b"state\0", 5, [31, 16, 0, 0, 0], 2, 0),
+        LineKind::Node => LineForm(*b"node\0\0", 4, [65535, 65535, 65535, 65535, 0], 4, 0),
+        LineKind::Go => LineForm(*b"go\0\0\0\0", 2, [65535, 65535, 65535, 0, 0], 3, 2),
+        LineKind::Pose => LineForm(*b"pose\0\0", 4, [0, 0, 0, 0, 0], 0, 8),
+    }
+}
+
 pub fn decimal_count(kind: LineKind) -> usize
     ensures { λ r. ⌜ r ≡ decimalCount kind ⌝ }
 {
-    match kind {
-        LineKind::Figure => 5,
-        LineKind::Joint => 1,
-        LineKind::Clip => 1,
-        LineKind::State => 2,
-        LineKind::Node => 4,
-        LineKind::Go => 3,
-        LineKind::Pose => 0,
-    }
+    line_form(kind).3
 }
 
 pub fn bits_count(kind: LineKind) -> usize
     ensures { λ r. ⌜ r ≡ bitsCount kind ⌝ }
 {
-    match kind {
-        LineKind::Figure => 0,
-        LineKind::Joint => 0,
-        LineKind::Clip => 1,
-        LineKind::State => 0,
-        LineKind::Node => 0,
-        LineKind::Go => 2,
-        LineKind::Pose => 8,
-    }
+    line_form(kind).4
 }
 
-// J, C, P, S and the initial state, which has no limit of its own.
-fn header_limit(k: usize) -> u16
-    requires { ⌜ k < 5 ⌝ }
-    ensures { λ r. ⌜ r ≡ getD (64 ∷ 16 ∷ 32 ∷ 16 ∷ 65535 ∷ []) k 0 ⌝ }
-{
-    match k {
-        0 => 64,
-        1 => 16,
-        2 => 32,
-        3 => 16,
-        _ => 65535,
-    }
-}
-
-// The upper limit of decimal k.
-fn limit(kind: LineKind, k: usize) -> u16
-    requires { ⌜ k < decimalCount kind ⌝ }
-    ensures { λ r. ⌜ r ≡ getD (limits kind) k 0 ⌝ }
-{
-    match kind {
-        LineKind::Figure => header_limit(k),
-        LineKind::Clip => 4096,
-        LineKind::State => {
-            if k == 0 {
-                31
-            } else {
-                16
-            }
-        }
-        _ => 65535,
-    }
-}
-
+// Of field k.
 fn field_form(kind: LineKind, k: usize) -> FieldForm
     ensures { λ r. ⌜ r ≡ formOf kind k ⌝ }
 {
     if k < decimal_count(kind) {
-        return FieldForm::Decimal {
-            limit: limit(kind, k),
-        };
+        let limits = line_form(kind).2;
+        return FieldForm::Decimal { limit: limits[k] };
     }
     FieldForm::Bits
 }
 
 // ---- reading one
 
-fn begins(text: &[u8], at: usize, name: &[u8]) -> bool
-    ensures { λ r. ⌜ r ≡ begins (now (name .entry)) (drop at (now (text .entry))) ⌝ }
+// The length of the kind's name if that stands at `at`, else 0; it stands inside the text.
+fn name_at(text: &[u8], at: usize, kind: LineKind) -> usize
+    ensures { λ r. ⌜ r ≡ cond (begins (name kind) (drop at (now (text .entry)))) (length (name kind)) 0 ⌝ }
+    ensures { λ r. ⌜ r ≤ length (now (text .entry)) - at ⌝ }
 {
-    if text.len() < at {
-        return name.len() == 0;
-    }
-    if text.len() - at < name.len() {
-        return false;
-    }
+    let form = line_form(kind);
+    let name = form.0;
+    let length = form.1;
     let mut i = 0;
-    while i < name.len() {
-        if text[at + i] != name[i] {
-            return false;
+    while i < length {
+        if byte(text, at + i) != name[i] {
+            return 0;
         }
         i += 1;
     }
-    true
+    length
 }
 
-fn begins_with_name(text: &[u8], at: usize, kind: LineKind) -> bool
-    ensures { λ r. ⌜ r ≡ begins (name kind) (drop at (now (text .entry))) ⌝ }
-{
-    match kind {
-        LineKind::Figure => begins(text, at, b"figure"),
-        LineKind::Joint => begins(text, at, b"joint"),
-        LineKind::Clip => begins(text, at, b"clip"),
-        LineKind::State => begins(text, at, b"state"),
-        LineKind::Node => begins(text, at, b"node"),
-        LineKind::Go => begins(text, at, b"go"),
-        LineKind::Pose => begins(text, at, b"pose"),
-    }
-}
-
-fn name_length(kind: LineKind) -> usize
-    ensures { λ r. ⌜ r ≡ length (name kind) ⌝ }
-{
-    match kind {
-        LineKind::Figure => 6,
-        LineKind::Joint => 5,
-        LineKind::Clip => 4,
-        LineKind::State => 5,
-        LineKind::Node => 4,
-        LineKind::Go => 2,
-        LineKind::Pose => 4,
-    }
-}
-
-// The fields from `at` on, and the line's end.
+// The fields from `at` on, and the line's end. They are read into an array of this function's own, since behind a reference an array's length is not known.
 fn fields_at(text: &[u8], at: usize, kind: LineKind, values: &mut [usize; 8]) -> LineEnd
     ensures { λ r. ⌜ lineFound (now (text .entry)) (take (fieldCount kind) (now (values .exit))) r (lastFields kind (fieldCount kind) (drop at (now (text .entry)))) ⌝ }
 {
     let count = decimal_count(kind) + bits_count(kind);
+    let mut read = [0usize; 8];
     let mut here = at;
     let mut k = 0;
     while k < count {
@@ -160,21 +101,23 @@ fn fields_at(text: &[u8], at: usize, kind: LineKind, values: &mut [usize; 8]) ->
         let Field::Value { value, end } = field else {
             return LineEnd::Malformed;
         };
-        values[k] = value;
+        read[k] = value;
         here = end;
         k += 1;
     }
     if byte(text, here) != b'\n' {
         return LineEnd::Malformed;
     }
+    *values = read;
     LineEnd::At(here + 1)
 }
 
 pub fn line_at(text: &[u8], at: usize, kind: LineKind, values: &mut [usize; 8]) -> LineEnd
     ensures { λ r. ⌜ lineFound (now (text .entry)) (take (fieldCount kind) (now (values .exit))) r (lineIn kind (drop at (now (text .entry)))) ⌝ }
 {
-    if !begins_with_name(text, at, kind) {
+    let length = name_at(text, at, kind);
+    if length == 0 {
         return LineEnd::Malformed;
     }
-    fields_at(text, at + name_length(kind), kind, values)
+    fields_at(text, at + length, kind, values)
 }
