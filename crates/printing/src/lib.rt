@@ -1,23 +1,20 @@
 // What the program prints, written into a slice of bytes: a refusal, or a line for each joint.
 use float::f32_to_bits;
 ghost use mathlib.Core.Path.{_≡_};
-ghost use mathlib.Core.List.{[], _∷_, map};
+ghost use mathlib.Core.List.{[], _∷_};
 ghost use Prim.Native.Nat.{_+_, _*_, _<_, _≤_};
 ghost use lib.ListN.{length, take, drop};
 ghost use lib.Seq.{sets};
 ghost use lib.Ieee.{binary32, toBits};
-ghost use Rattle.model.specs.Text.{overwritten};
-ghost use Rattle.model.specs.Program.{glyph, digits, places, decimalText, decimalFields, bitsFields, refusedLine, jointLine, joined};
+ghost use Rattle.model.specs.Text.{comma, overwritten};
+ghost use Rattle.model.specs.Program.{glyph, digits, places, decimalFields, refusedLine, jointLine, joined};
+ghost use Rattle.printing.specs.Written.{Written, floatFields};
 
 fn glyph(d: usize) -> u8
     requires { ⌜ d < 16 ⌝ }
     ensures { λ r. ⌜ r ≡ glyph d ⌝ }
 {
-    if d < 10 {
-        48 + d as u8
-    } else {
-        87 + d as u8
-    }
+    if d < 10 { 48 + d as u8 } else { 87 + d as u8 }
 }
 
 // The last `count` digits of n, from `at` on.
@@ -49,7 +46,7 @@ fn places(n: usize) -> usize
 
 fn put_bytes(out: &mut [u8], at: usize, bytes: &[u8]) -> usize
     requires { ⌜ at + length (now bytes) ≤ length (now out) ⌝ }
-    ensures { λ r. ⌜ (r ≡ at + length (now (bytes .entry))) × (now (out .exit) ≡ sets (now (out .entry)) at (now (bytes .entry))) ⌝ }
+    ensures { λ r. ⌜ Written (now (out .entry)) at (now (bytes .entry)) (now (out .exit)) r ⌝ }
 {
     let mut i = 0;
     while i < bytes.len() {
@@ -59,29 +56,41 @@ fn put_bytes(out: &mut [u8], at: usize, bytes: &[u8]) -> usize
     at + i
 }
 
-// A comma and a decimal.
-fn put_decimal(out: &mut [u8], at: usize, n: usize) -> usize
-    requires { ⌜ at + 21 ≤ length (now out) ⌝ }
-    ensures { λ r. ⌜ (r ≡ at + length (decimalFields (n ∷ []))) × (now (out .exit) ≡ sets (now (out .entry)) at (decimalFields (n ∷ []))) ⌝ }
+// A comma, and the last `count` digits of n.
+fn put_field(out: &mut [u8], at: usize, base: usize, count: usize, n: usize) -> usize
+    requires { ⌜ (2 ≤ base) × (base ≤ 16) × (at + 1 + count ≤ length (now out)) ⌝ }
+    ensures { λ r. ⌜ Written (now (out .entry)) at (comma ∷ digits base count n) (now (out .exit)) r ⌝ }
 {
-    let count = places(n);
     out[at] = b',';
-    put_digits(out, at + 1, 10, count, n);
+    put_digits(out, at + 1, base, count, n);
     at + 1 + count
 }
 
-// A comma and a float's bits before each, for 16 floats from `from` on.
+fn put_decimal(out: &mut [u8], at: usize, n: usize) -> usize
+    requires { ⌜ at + 21 ≤ length (now out) ⌝ }
+    ensures { λ r. ⌜ Written (now (out .entry)) at (decimalFields (n ∷ [])) (now (out .exit)) r × (r ≤ at + 21) ⌝ }
+{
+    put_field(out, at, 10, places(n), n)
+}
+
+fn bits(x: f32) -> usize
+    ensures { λ r. ⌜ r ≡ toBits binary32 x ⌝ }
+{
+    f32_to_bits(x) as usize
+}
+
+// The bits of 16 floats from `from` on.
 fn put_floats(out: &mut [u8], at: usize, floats: &[f32], from: usize) -> usize
     requires { ⌜ (at + 144 ≤ length (now out)) × (from + 16 ≤ length (now floats)) ⌝ }
-    ensures { λ r. ⌜ (r ≡ at + 144) × (now (out .exit) ≡ sets (now (out .entry)) at (bitsFields (map (toBits binary32) (take 16 (drop from (now (floats .entry))))))) ⌝ }
+    ensures { λ r. ⌜ Written (now (out .entry)) at (floatFields (take 16 (drop from (now (floats .entry))))) (now (out .exit)) r × (r ≡ at + 144) ⌝ }
 {
+    let mut behind = at;
     let mut k = 0;
     while k < 16 {
-        out[at + 9 * k] = b',';
-        put_digits(out, at + 9 * k + 1, 16, 8, f32_to_bits(floats[from + k]) as usize);
+        behind = put_field(out, behind, 16, 8, bits(floats[from + k]));
         k += 1;
     }
-    at + 144
+    behind
 }
 
 pub fn put_refusal(out: &mut [u8], number: usize, place: usize) -> usize
@@ -98,7 +107,7 @@ pub fn put_refusal(out: &mut [u8], number: usize, place: usize) -> usize
 // Joint j's line, for the matrix that stands in the floats from 16 × j on.
 fn put_joint(out: &mut [u8], at: usize, j: usize, floats: &[f32]) -> usize
     requires { ⌜ (j < 100) × (at + 153 ≤ length (now out)) × (16 * j + 16 ≤ length (now floats)) ⌝ }
-    ensures { λ r. ⌜ (r ≡ at + length (jointLine j (take 16 (drop (16 * j) (now (floats .entry)))))) × (r ≤ at + 153) × (now (out .exit) ≡ sets (now (out .entry)) at (jointLine j (take 16 (drop (16 * j) (now (floats .entry)))))) ⌝ }
+    ensures { λ r. ⌜ Written (now (out .entry)) at (jointLine j (take 16 (drop (16 * j) (now (floats .entry))))) (now (out .exit)) r × (r ≤ at + 153) ⌝ }
 {
     let behind_name = put_bytes(out, at, b"joint");
     let behind_index = put_decimal(out, behind_name, j);

@@ -1,4 +1,5 @@
--- The figures that a text can hold: words and bits of their width, counts within the reader's limits, as many words and numbers as the counts say. Definitions only.
+-- The figures that a text can hold: words and bits of their width, counts within the reader's limits, as many words and numbers as the counts say.
+-- Definitions only.
 use Prim.Native.Nat.{ℕ, _≤_, _<_, _^_}
 use mathlib.Core.Path.{_≡_}
 use mathlib.Core.List.{List}

@@ -3,11 +3,11 @@ pub mod Digits
 pub mod Fields
 pub mod Lines
 pub mod Parts
+pub mod Rows
+pub mod Shape
 pub mod Reads
 pub mod Writes
-pub mod Shape
 pub mod Forward
 pub mod Backward
 pub mod Patterns
-pub mod Spends
 pub mod Refusals

@@ -1,11 +1,10 @@
 -- What writing a figure and reading it have to do with each other. Definitions only: the theorems are Theorems.antt.
-use Prim.Native.Nat.{ℕ, _+_, _*_, _≤_}
+use Prim.Native.Nat.{ℕ, _≤_}
 use mathlib.Core.Path.{_≡_}
 use mathlib.Core.Bool.{cond}
 use mathlib.Core.List.{List, [], map}
-use lib.ListN.{length}
 use lib.Ieee.{Float, binary32, toBits, nanBits}
-use Rattle.model.specs.Text.{Reading, bad, got, readFigure, floatsOf}
+use Rattle.model.specs.Text.{got, readFigure, floatsOf}
 use Rattle.model.specs.Program.{figureText}
 use Rattle.model.specs.Answers.{Verdict, accepted, refused}
 use Rattle.round_trip.specs.Counted.{Counted}
@@ -40,16 +39,6 @@ pub record WritesFloats (text plan bits : List ℕ) : Type 0 where
   pub written : text ≡ figureText plan bits
   pub rewritten : floatsText plan (floatsOf bits) ≡ figureText plan (map canonical bits)
   pub again : ReadsFloats (floatsText plan (floatsOf bits)) plan (floatsOf bits)
-
--- ---- how much text a reading takes
-
--- of m bytes: the bad line's number is at most one more; otherwise a line takes at least a byte, a word two and a number's bits nine
-abbrev pub Within : ℕ → Reading → Type 0
-Within m (bad line) = line ≤ m + 1
-Within m (got ws bs rest lines) = lines + 2 * length ws + 9 * length bs + length rest ≤ m
-
-abbrev pub Spends : List ℕ → Reading → Type 0
-Spends s x = Within (length s) x
 
 -- ---- refusals
 

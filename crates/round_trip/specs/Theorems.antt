@@ -1,4 +1,4 @@
--- Writing a figure as text and reading it undo each other.
+-- Writing a figure as text and reading it undo each other. The claims are in the words of Counted.antt and RoundTrip.antt.
 use Prim.Native.Nat.{ℕ, _<_}
 use native.Mathlib.Omega.{arith}
 use mathlib.Core.Path.{_≡_, ap, _∙_}
@@ -21,6 +21,7 @@ use Rattle.round_trip.specs.Laws.Forward.{got-figure}
 use Rattle.round_trip.specs.Laws.Backward.{ends-figure, undone-figure}
 use Rattle.round_trip.specs.Laws.Refusals.{check-of}
 
+-- what is written for a figure that a text can hold is read back
 pub reads-back : (plan bits : List ℕ) → Counted plan bits → Reads (figureText plan bits) plan bits
 reads-back plan bits ok =
     let g = got-figure plan bits ok in
@@ -28,12 +29,13 @@ reads-back plan bits ok =
     let patterns : g .patterns ≡ bits = holds-whole bits (g .patterns) (g .in-bits .same) (omega (arith, g .in-bits .end, ok .counts .numbersCount)) in
     record { lines = g .lines; reading = g .reading ∙ rw (words, patterns) }
 
+-- a text that is accepted is the one that is written for what was read, down to the last byte, and that is a figure that a text can hold
 pub writes-back : (text ws bs rest : List ℕ) (n : ℕ) → readFigure text ≡ got ws bs rest n → Writes text ws bs rest
 unfolding limits part word jointCount clipCount parameterCount stateCount
 writes-back text ws bs rest n e =
     let u = undone-figure ws bs text ws bs rest n e (holds-all ws) (holds-all bs) in
     let ended : rest ≡ [] = ends-figure text ws bs rest n e in
-    let header : Limited (limits Figure) (part ws 0 5) = u .facts .0 in
+    let header : Limited (limits Figure) (part ws 0 5) = u .facts .header in
     record {
       counted = record {
         counts = record {
@@ -42,9 +44,9 @@ writes-back text ws bs rest n e =
           clips = header .1 .0;
           parameters = header .1 .1 .0;
           states = header .1 .1 .1 .0;
-          samples = u .facts .1 .1 .0;
-          nodes = λ s h. u .facts .1 .1 .1 .0 s h .0;
-          transitions = λ s h. u .facts .1 .1 .1 .0 s h .1;
+          samples = u .facts .samples;
+          nodes = λ s h. u .facts .states s h .0;
+          transitions = λ s h. u .facts .states s h .1;
           planLength = omega (arith, u .words-end);
           numbersCount = omega (arith, u .bits-end);
         };
@@ -54,9 +56,9 @@ writes-back text ws bs rest n e =
       ended = ended;
     }
 
--- numbers of 32 bits are read back as they are, a NaN included
-pub floats-back : (plan : List ℕ) (numbers : List Float) → CountedPlan plan (length numbers) → ((i : ℕ) → i < length numbers → T (fits binary32 (getD numbers i nan)))
-    → ReadsFloats (floatsText plan numbers) plan numbers
+-- floats of 32 bits are read back as they were, a NaN included
+pub floats-back : (plan : List ℕ) (numbers : List Float) → CountedPlan plan (length numbers)
+    → ((i : ℕ) → i < length numbers → T (fits binary32 (getD numbers i nan))) → ReadsFloats (floatsText plan numbers) plan numbers
 floats-back plan numbers ok fit =
     let bits = map (toBits binary32) numbers in
     record {
@@ -65,6 +67,7 @@ floats-back plan numbers ok fit =
       floats = floats-same numbers fit;
     }
 
+-- an accepted text's floats are written as that text, but for NaN patterns
 pub floats-written : (text ws bs rest : List ℕ) (n : ℕ) → readFigure text ≡ got ws bs rest n → WritesFloats text ws bs
 floats-written text ws bs rest n e =
     let w = writes-back text ws bs rest n e in

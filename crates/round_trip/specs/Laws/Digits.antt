@@ -25,7 +25,13 @@ digit-glyph d h = go (decLt d 10)
     go : Dec (d < 10) → digit (glyph d) ≡ d
     go (yes p) = simp (lt-ltb d 10 p, le-leb 48 (48 + d) (omega arith), le-leb (48 + d) 57 (omega arith)) (omega arith)
     go (no p) =
-        simp (le-ltb d 10 (omega arith), le-leb 48 (87 + d) (omega arith), lt-leb (87 + d) 57 (omega arith), le-leb 97 (87 + d) (omega arith), le-leb (87 + d) 102 (omega arith))
+        simp (
+          le-ltb d 10 (omega arith),
+          le-leb 48 (87 + d) (omega arith),
+          lt-leb (87 + d) 57 (omega arith),
+          le-leb 97 (87 + d) (omega arith),
+          le-leb (87 + d) 102 (omega arith),
+        )
         (omega arith)
 
 pub glyph-digit : (b : ℕ) → digit b < 16 → glyph (digit b) ≡ b
@@ -83,7 +89,8 @@ module _ (base : ℕ) (some : 0 < base) (few : base ≤ 16) where
   run-digit [] k h = absurd (omega arith)
   run-digit (b ∷ s) k h = go (ltb (digit b) base) refl k h (run-digit s)
     where
-      go : (x : Bool) → ltb (digit b) base ≡ x → (k : ℕ) → k < cond x (suc (run base s)) 0 → ((k : ℕ) → k < run base s → digit (getD s k 0) < base) → digit (getD (b ∷ s) k 0) < base
+      go : (x : Bool) → ltb (digit b) base ≡ x → (k : ℕ) → k < cond x (suc (run base s)) 0 → ((k : ℕ) → k < run base s → digit (getD s k 0) < base)
+          → digit (getD (b ∷ s) k 0) < base
       go true e zero h later = ltb-true (digit b) base e
       go true e (suc k) h later = later k (omega arith)
       go false e k h later = absurd (omega arith)

@@ -78,7 +78,8 @@ places-numeral zero (suc j) s there some h = absurd (omega (arith, numeral-some 
 places-numeral (suc f) (suc j) s there some h =
     let n = numeral 10 (suc j) s in
     let d : digit (getD s (suc j) 0) < 10 = run-digit 10 (omega arith) (omega arith) s (suc j) there in
-    rw (le-ltb (n * 10 + digit (getD s (suc j) 0)) 10 (omega (arith, numeral-some j s some)), digits-div n d, places-numeral f j s (omega arith) some (omega arith))
+    let large : 10 ≤ n * 10 + digit (getD s (suc j) 0) = omega (arith, numeral-some j s some) in
+    rw (le-ltb (n * 10 + digit (getD s (suc j) 0)) 10 large, digits-div n d, places-numeral f j s (omega arith) some (omega arith))
 
 -- only '0' is the digit 0
 front-some : (s : List ℕ) → 0 < run 10 s → (front s ≡ 48 → ⊥) → 0 < digit (front s)
@@ -89,7 +90,8 @@ front-some s there other = go (ℕ-discrete (digit (front s)) 0)
     go (yes p) = absurd (other (sym (glyph-digit (front s) (omega arith)) ∙ ap glyph p))
     go (no p) = omega arith
 
-normal-places : (k : ℕ) (s : List ℕ) → k ≤ run 10 s → 1 ≤ k → (eqb k 1 || not (eqb (front s) 48)) ≡ true → numeral 10 k s < 10 ^ 20 → places 19 (numeral 10 k s) ≡ k
+normal-places : (k : ℕ) (s : List ℕ) → k ≤ run 10 s → 1 ≤ k → (eqb k 1 || not (eqb (front s) 48)) ≡ true → numeral 10 k s < 10 ^ 20
+    → places 19 (numeral 10 k s) ≡ k
 normal-places zero s there some normal h = absurd (omega arith)
 normal-places (suc zero) s there some normal h = places-one 19 (numeral 10 1 s) (numeral-below 10 (omega arith) (omega arith) s 1 there)
 normal-places (suc (suc j)) s there some normal h =
@@ -151,13 +153,16 @@ width-is : (form : FieldForm) (s : List ℕ) → limitOf form ≤ maxPattern
 unfolding isField width
 width-is (Decimal limit) s few e =
     let k = run 10 s in
-    let first = and-left (leb 1 k && (eqb k 1 || not (eqb (front s) 48))) (leb (numeral 10 k s) limit) e in
-    let small : numeral 10 k s ≤ limit = leb-true (numeral 10 k s) limit (and-right (leb 1 k && (eqb k 1 || not (eqb (front s) 48))) (leb (numeral 10 k s) limit) e) in
+    let normal = eqb k 1 || not (eqb (front s) 48) in
+    let first = and-left (leb 1 k && normal) (leb (numeral 10 k s) limit) e in
+    let small : numeral 10 k s ≤ limit = leb-true (numeral 10 k s) limit (and-right (leb 1 k && normal) (leb (numeral 10 k s) limit) e) in
     let some : 1 ≤ k = leb-true 1 k (and-left _ _ first) in
     (normal-places k s (omega arith) some (and-right (leb 1 k) _ first) (omega arith), small)
 width-is Bits s few e =
-    let k : run 16 s ≡ 8 = eqb-true (run 16 s) 8 e in
-    (sym k, (let h : numeral 16 (run 16 s) s < 16 ^ 8 = subst (λ (n : ℕ). numeral 16 (run 16 s) s < 16 ^ n) k (numeral-below 16 (omega arith) (omega arith) s (run 16 s) (omega arith)) in omega arith))
+    let k = run 16 s in
+    let eight : k ≡ 8 = eqb-true k 8 e in
+    let below : numeral 16 k s < 16 ^ 8 = subst (λ (n : ℕ). numeral 16 k s < 16 ^ n) eight (numeral-below 16 (omega arith) (omega arith) s k (omega arith)) in
+    (sym eight, (omega arith))
 
 module _ (form : FieldForm) (few : limitOf form ≤ maxPattern) where
   -- where no further digit follows
@@ -184,10 +189,12 @@ module _ (form : FieldForm) (few : limitOf form ≤ maxPattern) where
       k : ℕ
       k = run base s
 
-      go : (x : Bool) → isField form k s ≡ x → cond x (field (numeral base k s) (drop k s)) none ≡ field v r → (s ≡ digits base (width form v) v ++ r) × (v ≤ limitOf form)
+      go : (x : Bool) → isField form k s ≡ x → cond x (field (numeral base k s) (drop k s)) none ≡ field v r
+          → (s ≡ digits base (width form v) v ++ r) × (v ≤ limitOf form)
       go true t e =
           let value : numeral base k s ≡ v = cc in
           let rest : drop k s ≡ r = cc in
           let w = width-is form s few t in
-          (sym (digits-numeral base (base-some form) (base-few form) s k (omega arith)) ∙ rw (value, rest, sym (w .0) ∙ ap (width form) value), rw value at (w .1))
+          let count : k ≡ width form v = sym (w .0) ∙ ap (width form) value in
+          (sym (digits-numeral base (base-some form) (base-few form) s k (omega arith)) ∙ rw (value, rest, count), rw value at (w .1))
       go false t e = absurd (let z : _≡_ {A = ℕ} 0 1 = cc in omega arith)

@@ -120,7 +120,8 @@ ended Bits [] (b ∷ bs) r = refl
 ended Bits (w ∷ ws) bs r = refl
 
 field-before-read : (form : FieldForm) (more : List ℕ → Line) (v : ℕ) (s vs r : List ℕ)
-    → limitOf form ≤ maxPattern → v ≤ limitOf form → run (baseOf form) s ≡ 0 → more s ≡ line vs r → fieldBefore form more (comma ∷ (fieldText form v ++ s)) ≡ line (v ∷ vs) r
+    → limitOf form ≤ maxPattern → v ≤ limitOf form → run (baseOf form) s ≡ 0 → more s ≡ line vs r
+    → fieldBefore form more (comma ∷ (fieldText form v ++ s)) ≡ line (v ∷ vs) r
 unfolding fieldBefore fieldThen withField
 field-before-read form more v s vs r few h end later = rw (field-read form few v s h end, later)
 
@@ -129,7 +130,9 @@ unfolding readBits decimalFields bitsFields bitsText fieldText
 bits-read zero [] r h = refl
 bits-read zero (b ∷ bs) r h = absurd h
 bits-read (suc n) [] r h = absurd h
-bits-read (suc n) (b ∷ bs) r h = rw append-assoc (field-before-read Bits (readBits n) b (bitsFields bs ++ lineFeed ∷ r) bs r (omega arith) (h .0) (ended Bits [] bs r) (bits-read n bs r (h .1)))
+bits-read (suc n) (b ∷ bs) r h =
+    let rest = bitsFields bs ++ lineFeed ∷ r in
+    rw append-assoc (field-before-read Bits (readBits n) b rest bs r (omega arith) (h .0) (ended Bits [] bs r) (bits-read n bs r (h .1)))
 
 fields-read : (ls ws : List ℕ) (n : ℕ) (bs r : List ℕ) → AtMost maxWord ls → Limited ls ws → Limited (replicate n maxPattern) bs
     → readFields ls n (decimalFields ws ++ (bitsFields bs ++ lineFeed ∷ r)) ≡ line (ws ++ bs) r
@@ -138,9 +141,9 @@ fields-read [] [] n bs r small h k = bits-read n bs r k
 fields-read [] (w ∷ ws) n bs r small h k = absurd h
 fields-read (l ∷ ls) [] n bs r small h k = absurd h
 fields-read (l ∷ ls) (w ∷ ws) n bs r small h k =
-    rw append-assoc
-    (field-before-read (Decimal l) (readFields ls n) w (decimalFields ws ++ (bitsFields bs ++ lineFeed ∷ r)) (ws ++ bs) r (omega arith) (h .0) (ended (Decimal l) ws bs r)
-    (fields-read ls ws n bs r (small .1) (h .1) k))
+    let rest = decimalFields ws ++ (bitsFields bs ++ lineFeed ∷ r) in
+    let later = fields-read ls ws n bs r (small .1) (h .1) k in
+    rw append-assoc (field-before-read (Decimal l) (readFields ls n) w rest (ws ++ bs) r (omega arith) (h .0) (ended (Decimal l) ws bs r) later)
 
 begins-same : (cs r : List ℕ) → begins cs (cs ++ r) ≡ true
 unfolding begins
@@ -152,8 +155,16 @@ unfolding readLine fromLine lineIn lineText
 line-read kind ws bs r h =
     let tail = decimalFields ws ++ (bitsFields bs ++ lineFeed ∷ r) in
     let count : length ws ≡ decimalCount kind = limited-length (limits kind) ws (h .words) in
-    let values : lastFields kind (fieldCount kind) tail ≡ line (ws ++ bs) r = all-fields kind tail ∙ fields-read (limits kind) ws (bitsCount kind) bs r (limits-most kind) (h .words) (h .patterns) in
-    simp (append-assoc, begins-same (name kind) tail, drop-at (name kind) tail (length (name kind)) refl, values, take-at ws bs (decimalCount kind) count, drop-at ws bs (decimalCount kind) count)
+    let values : lastFields kind (fieldCount kind) tail ≡ line (ws ++ bs) r =
+      all-fields kind tail ∙ fields-read (limits kind) ws (bitsCount kind) bs r (limits-most kind) (h .words) (h .patterns) in
+    simp (
+      append-assoc,
+      begins-same (name kind) tail,
+      drop-at (name kind) tail (length (name kind)) refl,
+      values,
+      take-at ws bs (decimalCount kind) count,
+      drop-at ws bs (decimalCount kind) count,
+    )
 
 -- ---- read, then written
 
@@ -173,11 +184,13 @@ record FieldFirst (form : FieldForm) (more : List ℕ → Line) (s vs r : List �
   small : value ≤ limitOf form
   later : more rest ≡ line values r
 
-field-before-written : (form : FieldForm) (more : List ℕ → Line) (s vs r : List ℕ) → limitOf form ≤ maxPattern → fieldBefore form more s ≡ line vs r → FieldFirst form more s vs r
+field-before-written : (form : FieldForm) (more : List ℕ → Line) (s vs r : List ℕ) → limitOf form ≤ maxPattern
+    → fieldBefore form more s ≡ line vs r → FieldFirst form more s vs r
 unfolding fieldBefore fieldThen withField
 field-before-written form more s vs r few e = first (eqb (front s) comma) refl e
   where
-    last : (v : ℕ) (s₁ : List ℕ) → eqb (front s) comma ≡ true → fieldIn form (drop 1 s) ≡ field v s₁ → (x : Line) → more s₁ ≡ x → withField v x ≡ line vs r → FieldFirst form more s vs r
+    last : (v : ℕ) (s₁ : List ℕ) → eqb (front s) comma ≡ true → fieldIn form (drop 1 s) ≡ field v s₁ → (x : Line) → more s₁ ≡ x → withField v x ≡ line vs r
+        → FieldFirst form more s vs r
     last v s₁ c f malformed m e = absurd (malformed-line vs r e)
     last v s₁ c f (line us r′) m e =
         let back = field-written form few v (drop 1 s) s₁ f in
@@ -268,14 +281,21 @@ line-written kind s ws bs r n e = read (lineIn kind s) refl e
     Result = (s ≡ lineText kind ws bs ++ r) × Fitting kind ws bs
 
     named : (vs : List ℕ) (x : Bool) → begins (name kind) s ≡ x
-        → cond x (lastFields kind (fieldCount kind) (drop (length (name kind)) s)) malformed ≡ line vs r → take (decimalCount kind) vs ≡ ws → drop (decimalCount kind) vs ≡ bs → Result
+        → cond x (lastFields kind (fieldCount kind) (drop (length (name kind)) s)) malformed ≡ line vs r
+        → take (decimalCount kind) vs ≡ ws → drop (decimalCount kind) vs ≡ bs → Result
     named vs true b e w v =
         let tail = drop (length (name kind)) s in
         let f = fields-written (limits kind) (bitsCount kind) tail vs r (limits-most kind) (sym (all-fields kind tail) ∙ e) in
         let count : length (f .words) ≡ decimalCount kind = limited-length (limits kind) (f .words) (f .limited) in
         let words : f .words ≡ ws = sym (take-at (f .words) (f .bits) (decimalCount kind) count) ∙ ap (take (decimalCount kind)) (sym (f .together)) ∙ w in
         let bits : f .bits ≡ bs = sym (drop-at (f .words) (f .bits) (decimalCount kind) count) ∙ ap (drop (decimalCount kind)) (sym (f .together)) ∙ v in
-        (begins-with (name kind) s (name-visible kind) b ∙ ap (λ (u : List ℕ). name kind ++ u) (f .text) ∙ rw (words, bits) (simp append-assoc), record { words = subst (Limited (limits kind)) words (f .limited); patterns = subst (Limited (replicate (bitsCount kind) maxPattern)) bits (f .patterns) })
+        (
+          begins-with (name kind) s (name-visible kind) b ∙ ap (λ (u : List ℕ). name kind ++ u) (f .text) ∙ rw (words, bits) (simp append-assoc),
+          record {
+            words = subst (Limited (limits kind)) words (f .limited);
+            patterns = subst (Limited (replicate (bitsCount kind) maxPattern)) bits (f .patterns);
+          },
+        )
     named vs false b e w v = absurd (malformed-line vs r e)
 
     read : (x : Line) → lineIn kind s ≡ x → fromLine kind x ≡ got ws bs r n → Result

@@ -37,7 +37,9 @@ module _ (xs : List ℕ) where
   holds-part a n = ap (part xs a) (length-part a n)
 
   pub holds-all : Holds 0 xs
-  holds-all = ext-getD 0 (part xs 0 (length xs)) xs (length-part 0 (length xs)) (λ i h. getD-part 0 (length xs) i (omega (arith, length-part 0 (length xs))) ∙ ap (λ (k : ℕ). getD xs k 0) (omega arith))
+  holds-all =
+      let n = length xs in
+      ext-getD 0 (part xs 0 n) xs (length-part 0 n) (λ i h. getD-part 0 n i (omega (arith, length-part 0 n)) ∙ ap (λ (k : ℕ). getD xs k 0) (omega arith))
 
   pub holds-whole : (ys : List ℕ) → Holds 0 ys → length ys ≡ length xs → ys ≡ xs
   holds-whole ys h e = sym h ∙ ap (part xs 0) e ∙ holds-all

@@ -5,9 +5,10 @@ use mathlib.Core.Path.{_≡_, refl, ap, _∙_}
 use mathlib.Core.List.{List, [], _++_, append-assoc}
 use Rattle.model.specs.declared.LineKind.{LineKind}
 use Rattle.model.specs.Text.{bitsCount, decimalCount, Reading, got, prefixed, andThen, times, readLine}
-use Rattle.model.specs.Program.{joined, part, lineText}
-use Rattle.round_trip.specs.Laws.Lines.{Fitting, line-read}
+use Rattle.model.specs.Program.{joined}
+use Rattle.round_trip.specs.Laws.Lines.{line-read}
 use Rattle.round_trip.specs.Laws.Parts.{Spans, spans-append, spans-part, spans-none, moved}
+use Rattle.round_trip.specs.Laws.Rows.{lineWords, lineBits, lineAt, FittingAt, Row, rowText}
 
 module _ (plan bits : List ℕ) where
   -- reading succeeds with the words from a to b and the bits from c to d, and leaves the text r
@@ -60,20 +61,21 @@ module _ (plan bits : List ℕ) where
   got-times read text at bt (suc n) each r =
       rw append-assoc (got-then (λ _. read) (got-times read text at bt n (λ i h. each i (omega arith)) (text n ++ r)) (each n (omega arith) r))
 
-  module _ (kind : LineKind) (a c : ℕ) where
-    abbrev pub lineWords : List ℕ
-    lineWords = part plan a (decimalCount kind)
+  pub got-line : (kind : LineKind) (a b c d : ℕ) → FittingAt plan bits kind a c → a + decimalCount kind ≡ b → c + bitsCount kind ≡ d
+      → (r : List ℕ) → Got (readLine kind (lineAt plan bits kind a c ++ r)) r a b c d
+  got-line kind a b c d fits e f r = record {
+    words = lineWords plan bits kind a c;
+    patterns = lineBits plan bits kind a c;
+    lines = 1;
+    reading = line-read kind (lineWords plan bits kind a c) (lineBits plan bits kind a c) r fits;
+    in-plan = spans-part plan a (decimalCount kind) b e;
+    in-bits = spans-part bits c (bitsCount kind) d f;
+  }
 
-    abbrev pub lineBits : List ℕ
-    lineBits = part bits c (bitsCount kind)
-
-    pub got-line : (b d : ℕ) → Fitting kind lineWords lineBits → a + decimalCount kind ≡ b → c + bitsCount kind ≡ d
-        → (r : List ℕ) → Got (readLine kind (lineText kind lineWords lineBits ++ r)) r a b c d
-    got-line b d fits e f r = record {
-      words = lineWords;
-      patterns = lineBits;
-      lines = 1;
-      reading = line-read kind lineWords lineBits r fits;
-      in-plan = spans-part plan a (decimalCount kind) b e;
-      in-bits = spans-part bits c (bitsCount kind) d f;
-    }
+  pub got-row : {kind : LineKind} {n : ℕ} {at bt : ℕ → ℕ} {a b c d : ℕ} → Row kind n at bt a b c d → ((i : ℕ) → i < n → FittingAt plan bits kind (at i) (bt i))
+      → (r : List ℕ) → Got (times n (readLine kind) (rowText plan bits kind n at bt ++ r)) r a b c d
+  got-row {kind} {n} {at} {bt} row fits r =
+      got-moved
+      (got-times (readLine kind) (λ i. lineAt plan bits kind (at i) (bt i)) at bt n
+      (λ i h. got-line kind (at i) (at (suc i)) (bt i) (bt (suc i)) (fits i h) (row .words-next i) (row .bits-next i)) r)
+      (row .words-first) (row .words-last) (row .bits-first) (row .bits-last)

@@ -7,10 +7,11 @@ use mathlib.Core.List.{List, [], _++_, append-assoc}
 use lib.ListN.{length, replicate, length-append, length-replicate}
 use Rattle.model.specs.declared.LineKind.{LineKind}
 use Rattle.model.specs.Text.{maxWord, limits, bitsCount, decimalCount, Reading, bad, got, prefixed, andThen, times, readLine}
-use Rattle.model.specs.Program.{joined, part, lineText}
+use Rattle.model.specs.Program.{joined, part}
 use Rattle.round_trip.specs.Laws.Fields.{maxPattern}
-use Rattle.round_trip.specs.Laws.Lines.{AtMost, Fitting, limited-length, limited-most, most-append, limits-most, replicate-most, line-written}
+use Rattle.round_trip.specs.Laws.Lines.{AtMost, limited-length, limited-most, most-append, limits-most, replicate-most, line-written}
 use Rattle.round_trip.specs.Laws.Parts.{Holds, holds-left, holds-right, moved}
+use Rattle.round_trip.specs.Laws.Rows.{lineWords, lineBits, lineAt, FittingAt, Row, rowText}
 
 pub bad-got : (m : ℕ) (ws bs r : List ℕ) (n : ℕ) → bad m ≡ got ws bs r n → ⊥
 bad-got m ws bs r n e = let z : _≡_ {A = ℕ} 0 1 = cc in omega arith
@@ -68,7 +69,8 @@ module _ (plan bits : List ℕ) where
       let y = first (holds-left plan a ws us h) (holds-left bits c bs vs g) in
       back-append s text s₁ more r a b b′ c d d′ ws us bs vs y
       (second (holds-left plan a ws us h) (y .words-end) us vs r k f
-      (subst (λ (p : ℕ). Holds plan p us) (y .words-end) (holds-right plan a ws us h)) (subst (λ (p : ℕ). Holds bits p vs) (y .bits-end) (holds-right bits c bs vs g))))
+      (subst (λ (p : ℕ). Holds plan p us) (y .words-end) (holds-right plan a ws us h))
+      (subst (λ (p : ℕ). Holds bits p vs) (y .bits-end) (holds-right bits c bs vs g))))
       ws′ bs′ n e
 
   pub undone-then : (x : Reading) (next : List ℕ → List ℕ → Reading) (s text more : List ℕ) (a b b′ c d d′ : ℕ) {Facts Others : Type 0}
@@ -90,13 +92,22 @@ module _ (plan bits : List ℕ) where
       (λ h _. later h)
 
   -- what else is known of a reading
-  pub undone-map : {x : Reading} {s text : List ℕ} {a b c d : ℕ} {Facts Others : Type 0} → (Facts → Others) → Undone x s text a b c d Facts → Undone x s text a b c d Others
+  pub undone-map : {x : Reading} {s text : List ℕ} {a b c d : ℕ} {Facts Others : Type 0}
+      → (Facts → Others) → Undone x s text a b c d Facts → Undone x s text a b c d Others
   undone-map f u ws bs r n e h g =
       let y = u ws bs r n e h g in
-      record { written = y .written; words-end = y .words-end; bits-end = y .bits-end; words-most = y .words-most; bits-most = y .bits-most; facts = f (y .facts) }
+      record {
+        written = y .written;
+        words-end = y .words-end;
+        bits-end = y .bits-end;
+        words-most = y .words-most;
+        bits-most = y .bits-most;
+        facts = f (y .facts);
+      }
 
   -- the text that was written, otherwise given
-  pub undone-text : {x : Reading} {s text text′ : List ℕ} {a b c d : ℕ} {Facts : Type 0} → (Facts → text ≡ text′) → Undone x s text a b c d Facts → Undone x s text′ a b c d Facts
+  pub undone-text : {x : Reading} {s text text′ : List ℕ} {a b c d : ℕ} {Facts : Type 0}
+      → (Facts → text ≡ text′) → Undone x s text a b c d Facts → Undone x s text′ a b c d Facts
   undone-text f u ws bs r n e h g =
       let y = u ws bs r n e h g in
       record {
@@ -109,8 +120,8 @@ module _ (plan bits : List ℕ) where
       }
 
   -- the same places, otherwise written
-  pub undone-moved : {x : Reading} {s text : List ℕ} {a a′ b b′ c c′ d d′ : ℕ} {Facts : Type 0} → Undone x s text a b c d Facts → a ≡ a′ → b ≡ b′ → c ≡ c′ → d ≡ d′
-      → Undone x s text a′ b′ c′ d′ Facts
+  pub undone-moved : {x : Reading} {s text : List ℕ} {a a′ b b′ c c′ d d′ : ℕ} {Facts : Type 0}
+      → Undone x s text a b c d Facts → a ≡ a′ → b ≡ b′ → c ≡ c′ → d ≡ d′ → Undone x s text a′ b′ c′ d′ Facts
   undone-moved {x} {s} {text} {Facts = Facts} u = moved (λ a b c d. Undone x s text a b c d Facts) u
 
   pub undone-times : (read : List ℕ → Reading) (text : ℕ → List ℕ) (at bt : ℕ → ℕ) (Facts : ℕ → Type 0)
@@ -127,26 +138,33 @@ module _ (plan bits : List ℕ) where
       pick i h f (yes p) = rw p (f .1)
       pick i h f (no p) = f .0 i (omega arith)
 
-  module _ (kind : LineKind) (a b c d : ℕ) (e : a + decimalCount kind ≡ b) (f : c + bitsCount kind ≡ d) where
-    abbrev lineWords : List ℕ
-    lineWords = part plan a (decimalCount kind)
+  pub undone-line : (kind : LineKind) (a b c d : ℕ) → a + decimalCount kind ≡ b → c + bitsCount kind ≡ d
+      → (s : List ℕ) → Undone (readLine kind s) s (lineAt plan bits kind a c) a b c d (FittingAt plan bits kind a c)
+  undone-line kind a b c d e f s ws bs r n read h g =
+      let back = line-written kind s ws bs r n read in
+      let count : length ws ≡ decimalCount kind = limited-length (limits kind) ws (back .1 .words) in
+      let ones = replicate (bitsCount kind) maxPattern in
+      let bits-count : length bs ≡ bitsCount kind = limited-length ones bs (back .1 .patterns) ∙ length-replicate (bitsCount kind) maxPattern in
+      let words : ws ≡ lineWords plan bits kind a c = sym h ∙ ap (part plan a) count in
+      let patterns : bs ≡ lineBits plan bits kind a c = sym g ∙ ap (part bits c) bits-count in
+      record {
+        written = back .0 ∙ rw (words, patterns);
+        words-end = omega arith;
+        bits-end = omega arith;
+        words-most = limited-most maxWord (limits kind) ws (limits-most kind) (back .1 .words);
+        bits-most = limited-most maxPattern ones bs (replicate-most maxPattern (bitsCount kind)) (back .1 .patterns);
+        facts = rw (← words, ← patterns) (back .1);
+      }
 
-    abbrev lineBits : List ℕ
-    lineBits = part bits c (bitsCount kind)
+  pub undone-row : {kind : LineKind} {n : ℕ} {at bt : ℕ → ℕ} {a b c d : ℕ} → Row kind n at bt a b c d
+      → (s : List ℕ) → Undone (times n (readLine kind) s) s (rowText plan bits kind n at bt) a b c d ((i : ℕ) → i < n → FittingAt plan bits kind (at i) (bt i))
+  undone-row {kind} {n} {at} {bt} row s =
+      undone-moved
+      (undone-times (readLine kind) (λ i. lineAt plan bits kind (at i) (bt i)) at bt _
+      (λ i. undone-line kind (at i) (at (suc i)) (bt i) (bt (suc i)) (row .words-next i) (row .bits-next i)) n s)
+      (row .words-first) (row .words-last) (row .bits-first) (row .bits-last)
 
-    pub undone-line : (s : List ℕ) → Undone (readLine kind s) s (lineText kind lineWords lineBits) a b c d (Fitting kind lineWords lineBits)
-    undone-line s ws bs r n read h g =
-        let back = line-written kind s ws bs r n read in
-        let count : length ws ≡ decimalCount kind = limited-length (limits kind) ws (back .1 .words) in
-        let ones = replicate (bitsCount kind) maxPattern in
-        let bits-count : length bs ≡ bitsCount kind = limited-length ones bs (back .1 .patterns) ∙ length-replicate (bitsCount kind) maxPattern in
-        let words : ws ≡ lineWords = sym h ∙ ap (part plan a) count in
-        let patterns : bs ≡ lineBits = sym g ∙ ap (part bits c) bits-count in
-        record {
-          written = back .0 ∙ rw (words, patterns);
-          words-end = omega arith;
-          bits-end = omega arith;
-          words-most = limited-most maxWord (limits kind) ws (limits-most kind) (back .1 .words);
-          bits-most = limited-most maxPattern ones bs (replicate-most maxPattern (bitsCount kind)) (back .1 .patterns);
-          facts = rw (← words, ← patterns) (back .1);
-        }
+  -- with nothing more to know of its lines
+  pub undone-lines : {kind : LineKind} {n : ℕ} {at bt : ℕ → ℕ} {a b c d : ℕ} → Row kind n at bt a b c d
+      → (s : List ℕ) → Undone (times n (readLine kind) s) s (rowText plan bits kind n at bt) a b c d (Unit {0})
+  undone-lines row s = undone-map (λ _. tt) (undone-row row s)

@@ -1,0 +1,155 @@
+-- Texts put into a slice one behind the other, and how many digits a number has. Assumes nothing.
+use Prim.Native.Nat.{ℕ, zero, suc, _+_, _-_, _/_, _%_, _^_, _≤_, _<_}
+use mathlib.Core.Path.{_≡_, refl, ap, sym, _∙_}
+use mathlib.Core.Bool.{Bool, true, false, cond}
+use mathlib.Core.List.{List, [], _∷_, _++_, map, append-nil, append-assoc, map-append}
+use native.Mathlib.Omega.{arith}
+use native.Mathlib.Numerals.{add-one, one-add}
+use native.Mathlib.Nat.{add-zero, zero-add, pow-suc, div-lt-iff-lt-mul}
+use borrow.Author.Tests.{lt-ltb, le-ltb, ltb-false}
+use lib.Ieee.{Float, nan, binary32, toBits}
+use lib.Dec.{ltb}
+use lib.ListN.{length, getD, take, drop, set, length-append, length-drop}
+use lib.Seq.{sets, sets-eq, length-sets, set-comm, take-suc, getD-drop}
+use Rattle.model.specs.declared.LineKind.the-variants.{Joint}
+use Rattle.model.specs.Text.{comma, lineFeed, name, overwritten}
+use Rattle.model.specs.Program.{glyph, digits, places, decimalText, bitsText, decimalFields, bitsFields, refusedLine, jointLine, joined}
+use Rattle.printing.specs.Written.{Written, floatFields}
+
+-- ---- texts one behind the other
+
+sets-append : (xs : List ℕ) (n : ℕ) (text more : List ℕ) → sets (sets xs n text) (n + length text) more ≡ sets xs n (text ++ more)
+sets-append xs n [] more = rw add-zero
+sets-append xs n (b ∷ text) more =
+    let e : n + suc (length text) ≡ suc n + length text = omega arith in
+    rw e (sets-append (set xs n b) (suc n) text more)
+
+pub nothing-written : (xs : List ℕ) (at : ℕ) → Written xs at [] xs at
+nothing-written xs at = record { stored = refl; ended = omega arith }
+
+pub byte-written : (xs : List ℕ) (at b : ℕ) → Written xs at (b ∷ []) (set xs at b) (at + 1)
+byte-written xs at b = record { stored = refl; ended = refl }
+
+-- one text and another right behind it
+pub more-written : {xs ys zs text more : List ℕ} {at middle end : ℕ} → Written xs at text ys middle → Written ys middle more zs end
+    → Written xs at (text ++ more) zs end
+more-written {xs = xs} {text = text} {more = more} {at = at} p q = record {
+  stored = q .stored ∙ rw (p .ended, p .stored) (sets-append xs at text more);
+  ended = omega (arith, length-append text more);
+}
+
+pub length-written : {xs ys text : List ℕ} {at end : ℕ} → Written xs at text ys end → length ys ≡ length xs
+length-written {xs = xs} {text = text} {at = at} p = ap length (p .stored) ∙ length-sets xs at text
+
+-- one byte more of a text that is copied
+pub next-byte : {xs ys : List ℕ} {at : ℕ} (bytes : List ℕ) (i : ℕ) → i < length bytes → Written xs at (take i bytes) ys (at + i)
+    → Written xs at (take (i + 1) bytes) (set ys (at + i) (getD bytes i 0)) (at + (i + 1))
+next-byte {ys = ys} {at = at} bytes i l p =
+    let e : at + (i + 1) ≡ at + i + 1 = omega arith in
+    rw (e, add-one i, take-suc bytes i 0 l) (more-written p (byte-written ys (at + i) (getD bytes i 0)))
+
+-- ---- digits
+
+pub length-digits : (base k n : ℕ) → length (digits base k n) ≡ k
+unfolding digits
+length-digits base zero n = refl
+length-digits base (suc k) n = omega (arith, length-append (digits base k (n / base)) (glyph (n % base) ∷ []), length-digits base k (n / base))
+
+-- a byte behind a text may be stored before the text or after it
+sets-set : (xs : List ℕ) (n : ℕ) (text : List ℕ) (i b : ℕ) → n + length text ≤ i → sets (set xs i b) n text ≡ set (sets xs n text) i b
+sets-set xs n [] i b l = refl
+sets-set xs n (d ∷ text) i b l = rw (set-comm xs i n b d (λ e. omega arith)) (sets-set (set xs n d) (suc n) text i b (omega arith))
+
+-- the last of k digits is stored, and k - 1 digits are still to come
+pub last-digit : (xs : List ℕ) (at base k rest b : ℕ) → 0 < k → b ≡ glyph (rest % base)
+    → sets (set xs (at + (k - 1)) b) at (digits base (k - 1) (rest / base)) ≡ sets xs at (digits base k rest)
+unfolding digits
+last-digit xs at base zero rest b l e = absurd (omega arith)
+last-digit xs at base (suc k) rest b l e =
+    let one-less : suc k - 1 ≡ k = omega arith in
+    let front = digits base k (rest / base) in
+    let n : length front ≡ k = length-digits base k (rest / base) in
+    let end : at + k ≡ at + length front = omega arith in
+    rw (one-less, e, ← sets-append xs at front (glyph (rest % base) ∷ []), end) (sets-set xs at front (at + length front) (glyph (rest % base)) (omega arith))
+
+-- ---- how many digits
+
+pub one-digit : (fuel n : ℕ) → n < 10 → places fuel n ≡ 1
+unfolding places
+one-digit zero n small = refl
+one-digit (suc fuel) n small = simp (lt-ltb n 10 small)
+
+-- of a number with no more than suc fuel digits, but with more than one, the last is taken off
+pub digit-less : (fuel rest : ℕ) → rest < 10 ^ suc fuel → 10 ≤ rest
+    → (0 < fuel) × (places fuel rest ≡ 1 + places (fuel - 1) (rest / 10)) × (rest / 10 < 10 ^ suc (fuel - 1))
+unfolding places
+digit-less zero rest small large = absurd (omega arith)
+digit-less (suc fuel) rest small large =
+    let e : suc fuel - 1 ≡ fuel = omega arith in
+    (omega arith, simp (le-ltb rest 10 large, e, one-add), rw e (div-lt-iff-lt-mul {k = 10} (omega arith) .1 (rw pow-suc at small)))
+
+few-places : (m fuel n : ℕ) → n < 10 ^ suc m → places fuel n ≤ suc m
+unfolding places
+few-places m zero n small = omega arith
+few-places m (suc fuel) n small = go (ltb n 10) refl (λ large. few-places (m - 1) fuel (n / 10) (digit-less m n small large .2))
+  where
+    go : (t : Bool) → ltb n 10 ≡ t → (10 ≤ n → places fuel (n / 10) ≤ suc (m - 1)) → cond t 1 (suc (places fuel (n / 10))) ≤ suc m
+    go true e less = omega arith
+    go false e less = let large = ltb-false n 10 e in omega (arith, less large, digit-less m n small large .0)
+
+-- ---- fields
+
+-- a comma, then digits
+pub field-written : (xs : List ℕ) (at base count n : ℕ) {ys : List ℕ} → ys ≡ sets (set xs at comma) (at + 1) (digits base count n)
+    → Written xs at (comma ∷ digits base count n) ys (at + 1 + count)
+field-written xs at base count n e = record { stored = rw add-one at e; ended = omega (arith, length-digits base count n) }
+
+pub short-decimal : (m n : ℕ) → n < 10 ^ suc m → length (decimalFields (n ∷ [])) ≤ 2 + m
+unfolding decimalFields decimalText
+short-decimal m n small =
+    omega (arith, ap length (append-nil (digits 10 (places 19 n) n)), length-digits 10 (places 19 n) n, few-places m 19 n small)
+
+bits-more : (vs : List ℕ) (v : ℕ) → bitsFields (vs ++ v ∷ []) ≡ bitsFields vs ++ comma ∷ bitsText v
+unfolding bitsFields
+bits-more [] v = append-nil (comma ∷ bitsText v)
+bits-more (w ∷ vs) v = rw (bits-more vs v) (sym (append-assoc (comma ∷ bitsText w) (bitsFields vs) (comma ∷ bitsText v)))
+
+-- one float more
+pub next-float : {xs ys zs : List ℕ} {at middle end : ℕ} (floats : List Float) (from k b : ℕ) → from + k < length floats
+    → b ≡ toBits binary32 (getD floats (from + k) nan) → Written xs at (floatFields (take k (drop from floats))) ys middle
+    → Written ys middle (comma ∷ digits 16 8 b) zs end → Written xs at (floatFields (take (k + 1) (drop from floats))) zs end
+unfolding bitsText
+next-float floats from k b l e p q =
+    let rest = drop from floats in
+    let there : k < length rest = omega (arith, length-drop from floats) in
+    let bits = map-append (toBits binary32) (take k rest) (getD floats (from + k) nan ∷ []) in
+    rw (add-one k, take-suc rest k nan there, getD-drop from floats k nan, bits, ← e, bits-more (map (toBits binary32) (take k rest)) b) (more-written p q)
+
+-- ---- lines
+
+-- a text from the first byte on
+pub text-written : {xs text ys : List ℕ} {end : ℕ} → Written xs 0 text ys end → length text ≤ length xs
+    → (end ≡ length text) × (ys ≡ overwritten text xs)
+unfolding overwritten
+text-written {xs = xs} {text = text} p room = (omega arith, p .stored ∙ sets-eq text xs 0 (omega arith) ∙ rw zero-add)
+
+two-decimals : (m n : ℕ) → decimalFields (m ∷ n ∷ []) ≡ decimalFields (m ∷ []) ++ decimalFields (n ∷ [])
+unfolding decimalFields
+two-decimals m n = ap (λ (text : List ℕ). comma ∷ text ++ decimalFields (n ∷ [])) (sym (append-nil (decimalText m)))
+
+pub joint-written : {xs a b c : List ℕ} {at p q r : ℕ} (j : ℕ) (floats : List Float) → Written xs at (name Joint) a p
+    → Written a p (decimalFields (j ∷ [])) b q → Written b q (floatFields floats) c r → Written xs at (jointLine j floats) (set c r lineFeed) (r + 1)
+unfolding jointLine
+joint-written j floats w d f = more-written (more-written (more-written w d) f) (byte-written _ _ lineFeed)
+
+pub refusal-written : {xs a b c : List ℕ} {p q r : ℕ} (number place : ℕ) → Written xs 0 (114 ∷ 101 ∷ 102 ∷ 117 ∷ 115 ∷ 101 ∷ 100 ∷ []) a p
+    → Written a p (decimalFields (number ∷ [])) b q → Written b q (decimalFields (place ∷ [])) c r
+    → Written xs 0 (refusedLine number place) (set c r lineFeed) (r + 1)
+unfolding refusedLine
+refusal-written number place w d e = rw (two-decimals number place) (more-written (more-written w (more-written d e)) (byte-written _ _ lineFeed))
+
+-- one line more
+pub next-line : {xs ys zs : List ℕ} {at middle end : ℕ} (n : ℕ) (lines : ℕ → List ℕ) → Written xs at (joined n lines) ys middle
+    → Written ys middle (lines n) zs end → Written xs at (joined (n + 1) lines) zs end
+unfolding joined
+next-line n lines p q = rw (add-one n) (more-written p q)

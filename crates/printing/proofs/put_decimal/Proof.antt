@@ -1,0 +1,19 @@
+-- `printing::put_decimal` meets its contract: one field is all of the definition's, and has at most 20 digits. Assumes nothing.
+use borrow.Author.Needs.{needs}
+use mathlib.Core.List.{append-nil}
+use native.Mathlib.Omega.{arith}
+use Rattle.model.specs.Program.{decimalText, decimalFields}
+use Rattle.printing.proofs.Laws.{length-digits}
+use Rattle.printing.proofs.put_decimal.Statement.{statement}
+use Rattle.printing.proofs.put_decimal.Tie as tie
+
+returns : tie.Need-returns
+unfolding decimalFields decimalText
+returns c =
+    let f = c .before .before in
+    let count = f .before .places in
+    let s = f .before .before .before .before in
+    (rw (append-nil, ← count .ensures .0) (f .put-field .ensures), omega (arith, f .put-field .ensures .ended, length-digits 10 (count .result) (s .args .n)))
+
+pub put-decimal-spec : {M : Type 1} → statement M
+put-decimal-spec = tie.close (tie.spec (search needs) (λ c κs. search needs) (search needs) returns)

@@ -1,0 +1,51 @@
+-- `printing::put_joints` meets its contract: after j turns the first j lines are written, of at most 153 bytes each. Assumes nothing.
+use Prim.Native.Nat.{_*_, _-_, _≤_}
+use mathlib.Core.Path.{_≡_}
+use native.Mathlib.Omega.{arith}
+use lib.ListN.{take, drop}
+use Rattle.model.specs.Program.{jointLine, joined}
+use Rattle.printing.specs.Written.{Written}
+use Rattle.printing.proofs.Laws.{nothing-written, length-written, text-written, next-line}
+use Rattle.printing.proofs.put_joints.Statement.{statement}
+use Rattle.printing.proofs.put_joints.Tie as tie
+
+abbrev Inv-loop : tie.InvT-loop
+Inv-loop out₀ count floats at₀ j₀ out at j = (j ≤ count) × (at ≤ 153 * j) × Written out₀ 0 (joined j (λ i. jointLine i (take 16 (drop (16 * i) floats)))) out at
+
+abbrev μ-loop : tie.MeasureT-loop
+μ-loop out₀ count floats at₀ j₀ out at j = count - j
+
+loop-holds : tie.Need-loop-holds Inv-loop μ-loop
+unfolding joined
+loop-holds c = (omega arith, omega arith, nothing-written _ _)
+
+put-joint-requires : tie.Need-put-joint-requires Inv-loop μ-loop
+put-joint-requires c κs = (omega arith, omega (arith, length-written (c .before .before .loop .inv .2)), omega arith)
+
+loop-again : tie.Need-loop-again Inv-loop μ-loop
+loop-again c =
+    let w = c .before .before .put-joint .ensures in
+    let l = c .before .before .before .before .before .loop in
+    (omega arith, omega arith, next-line (l .j) _ (l .inv .2) (w .0))
+
+returns : tie.Need-returns Inv-loop μ-loop
+returns c =
+    let l = c .before .loop in
+    let s = c .before .before .before .before in
+    let e : l .j ≡ s .args .count = omega arith in
+    let w = rw e at (l .inv .2) in
+    text-written w (omega arith)
+
+pub put-joints-spec : {M : Type 1} → statement M
+put-joints-spec =
+    tie.close
+    (tie.spec
+    Inv-loop
+    μ-loop
+    loop-holds
+    put-joint-requires
+    (omega arith)
+    (omega arith)
+    loop-again
+    (λ c. length-written (c .before .loop .inv .2))
+    returns)
