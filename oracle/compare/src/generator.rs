@@ -105,16 +105,16 @@ impl Generator {
         z ^ (z >> 31)
     }
 
-    fn below(&mut self, n: u64) -> u64 {
+    pub fn below(&mut self, n: u64) -> u64 {
         self.next() % n
     }
 
-    fn pick<T: Copy>(&mut self, items: &[T]) -> T {
+    pub fn pick<T: Copy>(&mut self, items: &[T]) -> T {
         items[self.below(items.len() as u64) as usize]
     }
 
     /// A float from `low` to `high`.
-    fn between(&mut self, low: f32, high: f32) -> f32 {
+    pub fn between(&mut self, low: f32, high: f32) -> f32 {
         low + (high - low) * ((self.next() >> 40) as f32 / 16_777_216.0)
     }
 
@@ -157,7 +157,7 @@ impl Generator {
         Row::new(kind, &words)
     }
 
-    fn unit_quaternion(&mut self) -> [f32; 4] {
+    pub fn unit_quaternion(&mut self) -> [f32; 4] {
         let parts = [(); 4].map(|_| self.between(-1.0, 1.0));
         let length = parts.iter().map(|p| p * p).sum::<f32>().sqrt();
         parts.map(|p| p / length)

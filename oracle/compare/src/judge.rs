@@ -98,6 +98,6 @@ fn pose_bits(p: QVTransform) -> Vec<u32> {
     words
 }
 
-fn matrix_bits(m: Matrix4<f32>) -> Vec<u32> {
+pub fn matrix_bits(m: Matrix4<f32>) -> Vec<u32> {
     m.iter().flatten().map(|&entry| bits(entry)).collect()
 }

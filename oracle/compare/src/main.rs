@@ -7,22 +7,30 @@ mod recorded;
 mod row;
 mod self_test;
 mod simplify;
+mod texts;
 
 use generator::Generator;
 use program::{mismatches, run, Subject};
 use row::{lines, Kind, Row};
+use std::io::{Read, Write};
 use std::path::Path;
 use std::process::ExitCode;
 use std::time::{SystemTime, UNIX_EPOCH};
 use std::{env, fs, io};
+use texts::examples;
 
 const USAGE: &str =
     "usage: compare record OUTDIR               write the recorded rows and the Rust's answers
        compare check STDIN STDOUT           hold these two files to what record would write
        compare random BINARY [--rows N] [--seed S]   compare BINARY with the Rust on random rows
-       compare self-test BINARY             show that random finds wrong answers of BINARY";
+       compare self-test BINARY             show that random finds wrong answers of BINARY
+       compare print                        what gentianlathe must print for the text on standard input
+       compare record-texts EXAMPLES OUTDIR write each example's .expected, the recorded texts and their answers
+       compare check-texts EXAMPLES STDIN STDOUT     hold these to what record-texts would write
+       compare random-texts BINARY [--cases N] [--seed S]   compare BINARY with the reference on random texts";
 
 const DEFAULT_ROWS: usize = 200_000;
+const DEFAULT_CASES: usize = 20_000;
 
 fn record(folder: &Path) -> io::Result<bool> {
     let rows = recorded::rows();
@@ -68,17 +76,25 @@ fn random(subject: Subject, count: usize, seed: u64) -> io::Result<bool> {
     Ok(total == 0)
 }
 
-/// How many rows, and from which seed: the defaults, or what the words after the program say.
-fn options(words: &[&str]) -> Result<(usize, u64), String> {
-    let (mut rows, mut seed) = (DEFAULT_ROWS, clock_seed());
+fn print() -> io::Result<bool> {
+    let mut text = Vec::new();
+    io::stdin().read_to_end(&mut text)?;
+    let printed = texts::printed::printed(&text);
+    io::stdout().write_all(printed.as_bytes())?;
+    Ok(true)
+}
+
+/// How many, and from which seed: the defaults, or what the words after the program say.
+fn options(words: &[&str], name: &str, default: usize) -> Result<(usize, u64), String> {
+    let (mut count, mut seed) = (default, clock_seed());
     for pair in words.chunks(2) {
         match pair {
-            ["--rows", number] => rows = parsed(number)? as usize,
             ["--seed", number] => seed = parsed(number)?,
+            [word, number] if *word == name => count = parsed(number)? as usize,
             _ => return Err(USAGE.to_string()),
         }
     }
-    Ok((rows, seed))
+    Ok((count, seed))
 }
 
 fn parsed(number: &str) -> Result<u64, String> {
@@ -98,10 +114,20 @@ fn command(arguments: &[String]) -> Result<bool, String> {
         ["record", folder] => record(Path::new(folder)),
         ["check", stdin, stdout] => check(Path::new(stdin), Path::new(stdout)),
         ["random", binary, ref rest @ ..] => {
-            let (rows, seed) = options(rest)?;
-            random(&|rows| run(Path::new(binary), rows), rows, seed)
+            let (count, seed) = options(rest, "--rows", DEFAULT_ROWS)?;
+            random(&|rows| run(Path::new(binary), rows), count, seed)
         }
         ["self-test", binary] => self_test::self_test(&|rows| run(Path::new(binary), rows)),
+        ["print"] => print(),
+        ["record-texts", folder, out] => examples::record(Path::new(folder), Path::new(out)),
+        ["check-texts", folder, stdin, stdout] => {
+            examples::check(Path::new(folder), Path::new(stdin), Path::new(stdout))
+        }
+        ["random-texts", binary, ref rest @ ..] => {
+            let (count, seed) = options(rest, "--cases", DEFAULT_CASES)?;
+            let subject = |cases: &[_]| texts::random::run(Path::new(binary), cases);
+            texts::random::compare(&subject, count, seed)
+        }
         _ => return Err(USAGE.to_string()),
     };
     done.map_err(|error| format!("compare: {error}"))

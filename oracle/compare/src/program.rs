@@ -12,19 +12,25 @@ pub type Subject<'a> = &'a dyn Fn(&[Row]) -> io::Result<Vec<String>>;
 
 /// Runs the program on the rows and gives the lines that it wrote.
 pub fn run(program: &Path, rows: &[Row]) -> io::Result<Vec<String>> {
+    let output = output(program, lines(rows, Row::text).into_bytes())?;
+    let output = String::from_utf8(output).map_err(io::Error::other)?;
+    Ok(output.lines().map(String::from).collect())
+}
+
+/// Runs the program on the input and gives what it wrote.
+pub fn output(program: &Path, text: Vec<u8>) -> io::Result<Vec<u8>> {
     let mut child = Command::new(program)
         .stdin(Stdio::piped())
         .stdout(Stdio::piped())
         .spawn()?;
     let mut input = child.stdin.take().unwrap();
-    let text = lines(rows, Row::text);
-    // A thread of its own writes the rows: the program answers while it still reads, and with both
+    // A thread of its own writes the text: the program answers while it still reads, and with both
     // pipes full each side would wait for the other.
-    let writer = thread::spawn(move || input.write_all(text.as_bytes()));
-    let mut output = String::new();
-    child.stdout.take().unwrap().read_to_string(&mut output)?;
+    let writer = thread::spawn(move || input.write_all(&text));
+    let mut output = Vec::new();
+    child.stdout.take().unwrap().read_to_end(&mut output)?;
     let status = child.wait()?;
-    // The program stops reading at a row that it calls malformed. Its answers then tell.
+    // The program stops reading at what it calls malformed. Its answers then tell.
     match writer.join().unwrap() {
         Err(error) if error.kind() != io::ErrorKind::BrokenPipe => return Err(error),
         _ => {}
@@ -32,7 +38,7 @@ pub fn run(program: &Path, rows: &[Row]) -> io::Result<Vec<String>> {
     if !status.success() {
         return Err(io::Error::other(format!("{}: {status}", program.display())));
     }
-    Ok(output.lines().map(String::from).collect())
+    Ok(output)
 }
 
 /// A row whose answer is not the Rust's.

@@ -1,0 +1,81 @@
+//! A figure while it is put together, right or wrong, and its text.
+
+use crate::row::joined;
+
+/// The counts of its text are the lengths here.
+#[derive(Clone, Debug, Default)]
+pub struct Draft {
+    pub parameters: u16,
+    pub initial: u16,
+    pub parents: Vec<u16>,
+    pub clips: Vec<Clip>,
+    pub states: Vec<State>,
+    pub poses: Vec<[u32; 8]>,
+}
+
+#[derive(Clone, Debug)]
+pub struct Clip {
+    pub samples: u16,
+    pub rate: u32,
+}
+
+#[derive(Clone, Debug, Default)]
+pub struct State {
+    /// Kind, a, b, p.
+    pub nodes: Vec<[u16; 4]>,
+    pub transitions: Vec<Transition>,
+}
+
+#[derive(Clone, Debug)]
+pub struct Transition {
+    /// Parameter, operator, target.
+    pub words: [u16; 3],
+    /// Value, duration.
+    pub numbers: [u32; 2],
+}
+
+impl Draft {
+    /// How many pose lines the counts ask for.
+    pub fn pose_count(&self) -> usize {
+        let samples = self.clips.iter().map(|clip| usize::from(clip.samples));
+        self.parents.len() * samples.sum::<usize>()
+    }
+
+    pub fn text(&self) -> String {
+        let mut text = format!(
+            "figure,{},{},{},{},{}\n",
+            self.parents.len(),
+            self.clips.len(),
+            self.parameters,
+            self.states.len(),
+            self.initial
+        );
+        for parent in &self.parents {
+            text += &format!("joint,{parent}\n");
+        }
+        for clip in &self.clips {
+            text += &format!("clip,{},{:08x}\n", clip.samples, clip.rate);
+        }
+        for state in &self.states {
+            text += &state.text();
+        }
+        for pose in &self.poses {
+            text += &format!("pose,{}\n", joined(pose));
+        }
+        text
+    }
+}
+
+impl State {
+    fn text(&self) -> String {
+        let mut text = format!("state,{},{}\n", self.nodes.len(), self.transitions.len());
+        for [kind, a, b, p] in &self.nodes {
+            text += &format!("node,{kind},{a},{b},{p}\n");
+        }
+        for Transition { words, numbers } in &self.transitions {
+            let [parameter, operator, target] = words;
+            text += &format!("go,{parameter},{operator},{target},{}\n", joined(numbers));
+        }
+        text
+    }
+}

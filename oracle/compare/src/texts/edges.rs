@@ -1,0 +1,163 @@
+//! Texts at the edges of what the reader takes, each with the answer that document 01 gives: a
+//! refusal's number and place, or none where the figure is played.
+
+/// A lerp node and a transition in 312 bytes. Parameter 0 is 0, so the transition begins.
+pub const BLEND: &str = "\
+figure,1,2,1,2,0
+joint,255
+clip,1,3f800000
+clip,1,40000000
+state,3,1
+node,0,0,0,0
+node,0,1,0,0
+node,1,0,1,0
+go,0,4,1,00000000,3f000000
+state,1,0
+node,0,1,0,0
+pose,3f800000,40000000,40400000,3f800000,3f3504f3,00000000,00000000,3f3504f3
+pose,00000000,3f800000,00000000,3f800000,3f800000,00000000,00000000,00000000
+";
+
+pub type Answer = Option<(u8, usize)>;
+
+/// A line of `BLEND`, what stands in its place, and the answer. Line 14 comes after the last.
+const LINES: [(usize, &str, Answer); 79] = [
+    (1, "figure,1,2,1,2,0\n", None),
+    // Lines that are not there, not whole, or too many.
+    (1, "", Some((11, 1))),
+    (6, "", Some((11, 8))),
+    (9, "", Some((11, 9))),
+    (12, "", Some((11, 13))),
+    (13, "", Some((11, 13))),
+    (13, POSE_WITHOUT_LF, Some((11, 13))),
+    (13, "\n", Some((11, 13))),
+    (14, "\n", Some((11, 14))),
+    (14, "\0", Some((11, 14))),
+    (14, "pose", Some((11, 14))),
+    (14, "joint,255\n", Some((11, 14))),
+    (1, "\nfigure,1,2,1,2,0\n", Some((11, 1))),
+    (3, "joint,255\nclip,1,3f800000\n", Some((11, 3))),
+    (5, "state,3,2\n", Some((11, 10))),
+    // Only LF ends a line.
+    (2, "joint,255\r\n", Some((11, 2))),
+    (2, "joint,255\r", Some((11, 2))),
+    (2, "joint,255\0\n", Some((11, 2))),
+    (2, "joint,255\u{b}\n", Some((11, 2))),
+    // Names.
+    (2, "Joint,255\n", Some((11, 2))),
+    (2, "joints,255\n", Some((11, 2))),
+    (2, "join,255\n", Some((11, 2))),
+    (2, ",255\n", Some((11, 2))),
+    (2, " joint,255\n", Some((11, 2))),
+    (1, "\u{feff}figure,1,2,1,2,0\n", Some((11, 1))),
+    // How many fields.
+    (2, "joint\n", Some((11, 2))),
+    (2, "joint,\n", Some((11, 2))),
+    (2, "joint,255,\n", Some((11, 2))),
+    (2, "joint,255,0\n", Some((11, 2))),
+    (2, "joint,,255\n", Some((11, 2))),
+    (6, "node,0,0,0\n", Some((11, 6))),
+    (6, "node,0,0,0,\n", Some((11, 6))),
+    (6, "node,0,0,0,0,0\n", Some((11, 6))),
+    (9, "go,0,4,1,00000000\n", Some((11, 9))),
+    // Decimals.
+    (6, "node,0,0,0,00\n", Some((11, 6))),
+    (6, "node,00,0,0,0\n", Some((11, 6))),
+    (7, "node,0,01,0,0\n", Some((11, 7))),
+    (2, "joint,0255\n", Some((11, 2))),
+    (2, "joint,+255\n", Some((11, 2))),
+    (2, "joint,-1\n", Some((11, 2))),
+    (2, "joint, 255\n", Some((11, 2))),
+    (2, "joint,255 \n", Some((11, 2))),
+    (2, "joint,2.5\n", Some((11, 2))),
+    (2, "joint,ff\n", Some((11, 2))),
+    (2, "joint,\"255\"\n", Some((11, 2))),
+    (2, "joint,2/5\n", Some((11, 2))),
+    (2, "joint,2:5\n", Some((11, 2))),
+    (2, "joint,65535\n", Some((3, 5))),
+    (2, "joint,65536\n", Some((11, 2))),
+    (2, "joint,65791\n", Some((11, 2))),
+    (2, "joint,18446744073709551871\n", Some((11, 2))),
+    // Float bits.
+    (3, "clip,1,ffffffff\n", None),
+    (3, "clip,1,3F800000\n", Some((11, 3))),
+    (3, "clip,1,3f80000\n", Some((11, 3))),
+    (3, "clip,1,03f800000\n", Some((11, 3))),
+    (3, "clip,1,0x3f8000\n", Some((11, 3))),
+    (3, "clip,1,+f800000\n", Some((11, 3))),
+    (3, "clip,1,3f80000g\n", Some((11, 3))),
+    (3, "clip,1,3f80000`\n", Some((11, 3))),
+    (3, "clip,1,\n", Some((11, 3))),
+    // Counts at their upper limits and above: the limit lets the line pass.
+    (1, "figure,64,2,1,2,0\n", Some((11, 3))),
+    (1, "figure,65,2,1,2,0\n", Some((11, 1))),
+    (1, "figure,1,16,1,2,0\n", Some((11, 5))),
+    (1, "figure,1,17,1,2,0\n", Some((11, 1))),
+    (1, "figure,1,2,32,2,0\n", None),
+    (1, "figure,1,2,33,2,0\n", Some((11, 1))),
+    (1, "figure,1,2,1,16,0\n", Some((11, 12))),
+    (1, "figure,1,2,1,17,0\n", Some((11, 1))),
+    (3, "clip,4096,3f800000\n", Some((11, 14))),
+    (3, "clip,4097,3f800000\n", Some((11, 3))),
+    (5, "state,31,1\n", Some((11, 9))),
+    (5, "state,32,1\n", Some((11, 5))),
+    (5, "state,3,16\n", Some((11, 10))),
+    (5, "state,3,17\n", Some((11, 5))),
+    // What is no count above its limit is left to the start.
+    (1, "figure,1,2,1,2,2\n", Some((2, 4))),
+    (1, "figure,1,2,1,2,65535\n", Some((2, 4))),
+    (6, "node,9,65535,65535,65535\n", Some((4, 9))),
+    (9, "go,32,4,1,00000000,3f000000\n", Some((5, 22))),
+    (9, "go,0,4,16,00000000,3f000000\n", Some((5, 24))),
+];
+
+const POSE_WITHOUT_LF: &str =
+    "pose,00000000,3f800000,00000000,3f800000,3f800000,00000000,00000000,00000000";
+
+const WHOLE: [(&str, Answer); 11] = [
+    ("", Some((11, 1))),
+    ("\n", Some((11, 1))),
+    ("figure", Some((11, 1))),
+    ("figure,0,0,0,0,0", Some((11, 1))),
+    ("figure,0,0,0,0,0\n", Some((2, 0))),
+    ("figure,0,0,0,0,0\n\n", Some((11, 2))),
+    ("figure,1,0,0,0,0\njoint,0\n", Some((2, 1))),
+    ("figure,1,1,0,0,0\njoint,0\nclip,0,00000000\n", Some((2, 3))),
+    (
+        "figure,1,1,0,1,0\njoint,0\nclip,0,00000000\nstate,0,0\n",
+        Some((3, 5)),
+    ),
+    (
+        "figure,1,1,0,1,0\njoint,255\nclip,0,00000000\nstate,0,0\n",
+        Some((2, 6)),
+    ),
+    ("figure,0,16,0,0,0\nclip,4096,00000000\n", Some((11, 3))),
+];
+
+pub fn edges() -> Vec<(Vec<u8>, Answer)> {
+    let lines = LINES.map(|(number, line, answer)| (with_line(number, line).into(), answer));
+    let whole = WHOLE.map(|(text, answer)| (text.into(), answer));
+    lines.into_iter().chain(whole).collect()
+}
+
+fn with_line(number: usize, line: &str) -> String {
+    let mut lines: Vec<&str> = BLEND.split_inclusive('\n').collect();
+    lines.push("");
+    lines[number - 1] = line;
+    lines.concat()
+}
+
+#[cfg(test)]
+mod tests {
+    use super::*;
+    use crate::texts::printed::played;
+
+    #[test]
+    fn are_answered_as_the_tables_say() {
+        for (text, expected) in edges() {
+            let refusal = played(&text).err();
+            let answer = refusal.map(|refusal| (refusal.number, refusal.place));
+            assert_eq!(answer, expected, "{}", text.escape_ascii());
+        }
+    }
+}

@@ -1,0 +1,119 @@
+//! Good figures at the limits: of a text's length, and of the counts.
+
+use super::draft::{Clip, Draft, State, Transition};
+use super::random_figure::{pose, Numbers};
+use crate::generator::Generator;
+
+const JOINTS: u16 = 64;
+const CLIPS: u16 = 16;
+const ONE: u32 = 0x3f80_0000;
+
+/// 64 joints, in a text of this length: about the greatest that the program takes.
+pub fn long_text(generator: &mut Generator, length: usize) -> String {
+    // Numbers of one digit; 255 for the first.
+    let parent = |joint: u16| joint.checked_sub(1).map_or(255, |before| before % 9);
+    let mut draft = Draft {
+        parameters: 2,
+        parents: (0..JOINTS).map(parent).collect(),
+        clips: [5, 4, 3, 1].map(clip).to_vec(),
+        states: [8, 4, 1].map(|leaves| balanced(leaves, 4, 2)).to_vec(),
+        ..Draft::default()
+    };
+    put_poses(generator, &mut draft);
+    lengthen(&mut draft, length);
+    draft.text()
+}
+
+/// All counts but J and N at their upper limits, and so many clip nodes in all, from 61 to 76.
+pub fn full_text(generator: &mut Generator, clip_nodes: u16) -> String {
+    let mut leaves = [1; 16];
+    leaves[..3].fill(16);
+    leaves[15] = clip_nodes - 60;
+    let mut draft = Draft {
+        parameters: 32,
+        parents: vec![255],
+        clips: vec![clip(1); usize::from(CLIPS)],
+        states: leaves.map(|leaves| balanced(leaves, CLIPS, 32)).to_vec(),
+        ..Draft::default()
+    };
+    for state in &mut draft.states {
+        state.transitions = vec![transition(31, false, 15); 15];
+        state.transitions.push(transition(31, true, 15));
+    }
+    put_poses(generator, &mut draft);
+    draft.text()
+}
+
+fn clip(samples: u16) -> Clip {
+    Clip { samples, rate: ONE }
+}
+
+fn put_poses(generator: &mut Generator, draft: &mut Draft) {
+    let poses = (0..draft.pose_count()).map(|_| pose(generator, Numbers::Sensible));
+    draft.poses = poses.collect();
+}
+
+/// A tree of so many clip nodes; its other nodes are lerp and additive in turn.
+fn balanced(leaves: u16, clips: u16, parameters: u16) -> State {
+    let clip_nodes = (0..leaves).map(|i| [0, i % clips, 0, 0]);
+    let others = (0..leaves - 1).map(|i| [1 + i % 2, 2 * i, 2 * i + 1, (i + 1) % parameters]);
+    State {
+        nodes: clip_nodes.chain(others).collect(),
+        transitions: Vec::new(),
+    }
+}
+
+/// Every parameter is 0, so one equal to 0 passes and one greater does not.
+fn transition(parameter: u16, passes: bool, target: u16) -> Transition {
+    let operator = if passes { 4 } else { 2 };
+    Transition {
+        words: [parameter, operator, target],
+        numbers: [0, ONE],
+    }
+}
+
+/// Adds transitions while they fit, then bytes one by one: a digit more in a parent's number.
+fn lengthen(draft: &mut Draft, length: usize) {
+    let bytes = "go,1,4,1,00000000,3f800000\n".len();
+    let mut missing = length - draft.text().len();
+    for State { transitions, .. } in &mut draft.states {
+        while missing > bytes && transitions.len() < 9 {
+            let passes = transitions.is_empty();
+            transitions.insert(0, transition(1, passes, 1));
+            missing -= bytes;
+        }
+    }
+    for joint in (11..JOINTS).rev().take(missing) {
+        draft.parents[usize::from(joint)] = joint - 1;
+    }
+}
+
+#[cfg(test)]
+mod tests {
+    use super::*;
+    use crate::texts::figure::Refusal;
+    use crate::texts::printed::{played, LONGEST};
+
+    #[test]
+    fn a_long_text_has_its_length_and_is_played() {
+        for length in LONGEST - 500..=LONGEST + 1 {
+            let text = long_text(&mut Generator::new(1), length);
+            assert_eq!(text.len(), length);
+        }
+        let text = long_text(&mut Generator::new(1), LONGEST);
+        assert_eq!(played(text.as_bytes()).unwrap().len(), usize::from(JOINTS));
+    }
+
+    #[test]
+    fn a_full_text_has_room_for_64_clip_nodes() {
+        let text = |clip_nodes| full_text(&mut Generator::new(1), clip_nodes).into_bytes();
+        assert!(played(&text(64)).is_ok());
+        // Before the last state: header, parent and counts; three big trees and twelve small ones.
+        let state = 5 + 1 + 16 + 3 * (2 + 4 * 31 + 3 * 16) + 12 * (2 + 4 + 3 * 16);
+        let refusal = Refusal {
+            number: 2,
+            place: state + 1 + 4 * 4,
+        };
+        assert_eq!(played(&text(65)), Err(refusal));
+    }
+}

@@ -1,0 +1,285 @@
+//! The check of a plan, refusals 1 to 7, written from document 01 alone.
+
+use super::figure::{Figure, Refusal};
+use std::ops::RangeInclusive;
+
+const ROOT: u16 = 255;
+const CLIP_NODES: usize = 64;
+
+/// A plan that passed, taken apart.
+pub struct Plan {
+    pub parents: Vec<u16>,
+    /// The sample count of each clip.
+    pub clips: Vec<u16>,
+    pub parameters: u16,
+    pub states: Vec<State>,
+    pub initial: u16,
+}
+
+pub struct State {
+    pub nodes: Vec<Node>,
+    pub transitions: Vec<Transition>,
+}
+
+pub enum Node {
+    Clip(u16),
+    Lerp(Inputs),
+    Additive(Inputs),
+}
+
+pub struct Inputs {
+    pub a: u16,
+    pub b: u16,
+    pub parameter: u16,
+}
+
+pub struct Transition {
+    pub parameter: u16,
+    pub operator: u16,
+    pub target: u16,
+}
+
+pub fn check(figure: &Figure) -> Result<Plan, Refusal> {
+    let mut words = Words {
+        plan: &figure.plan,
+        at: 0,
+        clip_nodes: 0,
+    };
+    let plan = words.plan()?;
+    if words.at < figure.plan.len() {
+        return refused(6, words.at);
+    }
+    if figure.numbers.len() != plan.numbers() {
+        return refused(7, 0);
+    }
+    Ok(plan)
+}
+
+fn refused<T>(number: u8, place: usize) -> Result<T, Refusal> {
+    Err(Refusal { number, place })
+}
+
+impl Plan {
+    /// How many numbers belong to it.
+    fn numbers(&self) -> usize {
+        let transitions: usize = self.states.iter().map(|s| s.transitions.len()).sum();
+        let samples: usize = self.clips.iter().map(|&count| usize::from(count)).sum();
+        self.clips.len() + 2 * transitions + 8 * self.parents.len() * samples
+    }
+}
+
+struct Words<'a> {
+    plan: &'a [u16],
+    at: usize,
+    /// Clip nodes so far, over all states.
+    clip_nodes: usize,
+}
+
+impl Words<'_> {
+    fn plan(&mut self) -> Result<Plan, Refusal> {
+        let joints = self.count(1..=64)?;
+        let clips = self.count(1..=16)?;
+        let parameters = self.count(0..=32)?;
+        let states = self.count(1..=16)?;
+        let initial = self.word(2, |word| word < states)?;
+        let parent = |joint| self.word(3, |word| word == ROOT || word < joint);
+        let parents = (0..joints).map(parent).collect::<Result<_, _>>()?;
+        let samples = |_| self.count(1..=4096);
+        let samples = (0..clips).map(samples).collect::<Result<_, _>>()?;
+        let state = |_| self.state(clips, parameters, states);
+        let states = (0..states).map(state).collect::<Result<_, _>>()?;
+        Ok(Plan {
+            parents,
+            clips: samples,
+            parameters,
+            states,
+            initial,
+        })
+    }
+
+    fn state(&mut self, clips: u16, parameters: u16, states: u16) -> Result<State, Refusal> {
+        let place = self.at;
+        let count = usize::from(self.count(1..=31)?);
+        let mut used = vec![false; count];
+        let node = |i| self.node(&mut used[..i], clips, parameters);
+        let nodes = (0..count).map(node).collect::<Result<_, _>>()?;
+        if used[..count - 1].contains(&false) {
+            return refused(4, place);
+        }
+        let count = self.count(0..=16)?;
+        let transition = |_| self.transition(parameters, states);
+        let transitions = (0..count).map(transition).collect::<Result<_, _>>()?;
+        Ok(State { nodes, transitions })
+    }
+
+    /// A node, where `used` says of each earlier one whether it is an input already.
+    fn node(&mut self, used: &mut [bool], clips: u16, parameters: u16) -> Result<Node, Refusal> {
+        let kind = self.kind()?;
+        if kind == 0 {
+            let clip = self.word(4, |word| word < clips)?;
+            self.word(4, |b| b == 0)?;
+            self.word(4, |p| p == 0)?;
+            return Ok(Node::Clip(clip));
+        }
+        let inputs = Inputs {
+            a: self.input(used)?,
+            b: self.input(used)?,
+            parameter: self.word(4, |word| word < parameters)?,
+        };
+        Ok(match kind {
+            1 => Node::Lerp(inputs),
+            _ => Node::Additive(inputs),
+        })
+    }
+
+    fn kind(&mut self) -> Result<u16, Refusal> {
+        let place = self.at;
+        let kind = self.word(4, |word| word <= 2)?;
+        if kind == 0 {
+            self.clip_nodes += 1;
+        }
+        if self.clip_nodes > CLIP_NODES {
+            return refused(2, place);
+        }
+        Ok(kind)
+    }
+
+    fn input(&mut self, used: &mut [bool]) -> Result<u16, Refusal> {
+        let input = self.word(4, |word| used.get(usize::from(word)) == Some(&false))?;
+        used[usize::from(input)] = true;
+        Ok(input)
+    }
+
+    fn transition(&mut self, parameters: u16, states: u16) -> Result<Transition, Refusal> {
+        Ok(Transition {
+            parameter: self.word(5, |word| word < parameters)?,
+            operator: self.word(5, |word| word <= 5)?,
+            target: self.word(5, |word| word < states)?,
+        })
+    }
+
+    fn count(&mut self, range: RangeInclusive<u16>) -> Result<u16, Refusal> {
+        self.word(2, |word| range.contains(&word))
+    }
+
+    /// The next word: refused by 1 where the plan has ended, by `number` where it does not pass.
+    fn word(&mut self, number: u8, passes: impl Fn(u16) -> bool) -> Result<u16, Refusal> {
+        let place = self.at;
+        match self.plan.get(place) {
+            None => refused(1, self.plan.len()),
+            Some(&word) if passes(word) => {
+                self.at += 1;
+                Ok(word)
+            }
+            Some(_) => refused(number, place),
+        }
+    }
+}
+
+#[cfg(test)]
+mod tests {
+    use super::*;
+
+    /// Two joints, two clips, one parameter, two states: a lerp of two clips that goes to state 1,
+    /// and a clip.
+    const WORDS: [u16; 33] = [
+        2, 2, 1, 2, 0, // header: 0 to 4
+        255, 0, // parents: 5, 6
+        1, 3, // samples: 7, 8
+        3, 0, 0, 0, 0, 0, 1, 0, 0, 1, 0, 1, 0, // K: 9, nodes: 10 to 21
+        1, 0, 5, 1, // T: 22, transition: 23 to 25
+        1, 0, 1, 0, 0, // K: 26, node: 27 to 30
+        0, // T: 31
+        0, // left over: 32
+    ];
+    const LENGTH: usize = 32;
+    const NUMBERS: usize = 2 + 2 + 8 * 2 * 4;
+
+    fn answer(plan: &[u16], numbers: usize) -> Option<(u8, usize)> {
+        let figure = Figure {
+            plan: plan.to_vec(),
+            numbers: vec![0; numbers],
+        };
+        let refusal = check(&figure).err();
+        refusal.map(|refusal| (refusal.number, refusal.place))
+    }
+
+    #[test]
+    fn a_plan_is_as_long_as_it_says() {
+        assert_eq!(answer(&WORDS[..LENGTH], NUMBERS), None);
+        for length in 0..LENGTH {
+            assert_eq!(answer(&WORDS[..length], NUMBERS), Some((1, length)));
+        }
+        assert_eq!(answer(&WORDS, NUMBERS), Some((6, LENGTH)));
+        assert_eq!(answer(&WORDS, 0), Some((6, LENGTH)));
+        for numbers in [0, NUMBERS - 1, NUMBERS + 1] {
+            assert_eq!(answer(&WORDS[..LENGTH], numbers), Some((7, 0)));
+        }
+    }
+
+    /// A place, a word put there, and the refusal: its number where the place is the same.
+    #[test]
+    fn a_wrong_word_is_blamed() {
+        let at_itself = [
+            (0, [0, 65], 2),
+            (1, [0, 17], 2),
+            (2, [33, 65535], 2),
+            (3, [0, 17], 2),
+            (4, [2, 65535], 2),
+            (5, [0, 254], 3),
+            (6, [1, 256], 3),
+            (7, [0, 4097], 2),
+            (9, [0, 32], 2),
+            (10, [3, 65535], 4),
+            (11, [2, 65535], 4),
+            (12, [1, 255], 4),
+            (13, [1, 255], 4),
+            (18, [3, 256], 4),
+            (19, [2, 256], 4),
+            (20, [0, 2], 4), // the same input twice, a later one
+            (21, [1, 255], 4),
+            (22, [17, 65535], 2),
+            (23, [1, 31], 5),
+            (24, [6, 255], 5),
+            (25, [2, 255], 5),
+        ];
+        for (place, words, number) in at_itself {
+            for word in words {
+                let mut plan = WORDS[..LENGTH].to_vec();
+                plan[place] = word;
+                assert_eq!(
+                    answer(&plan, NUMBERS),
+                    Some((number, place)),
+                    "{word} at {place}"
+                );
+            }
+        }
+    }
+
+    #[test]
+    fn an_unused_node_is_blamed_on_its_count() {
+        let mut plan = WORDS[..22].to_vec();
+        plan[18..22].copy_from_slice(&[0, 1, 0, 0]);
+        assert_eq!(answer(&plan, NUMBERS), Some((4, 9)));
+        plan.push(17);
+        assert_eq!(answer(&plan, NUMBERS), Some((4, 9)));
+    }
+
+    /// Four states of 16 clip nodes each, and a fifth.
+    #[test]
+    fn the_65th_clip_node_is_blamed_at_its_kind() {
+        let mut plan = vec![1, 1, 1, 5, 0, 255, 1];
+        for _ in 0..4 {
+            plan.push(31);
+            plan.extend([0; 64]);
+            plan.extend((0..15).flat_map(|i| [1, 2 * i, 2 * i + 1, 0]));
+            plan.push(0);
+        }
+        assert_eq!(answer(&plan, 0), Some((1, plan.len())));
+        let kind = plan.len() + 1;
+        plan.extend([1, 0, 9, 9, 9]);
+        assert_eq!(answer(&plan, 0), Some((2, kind)));
+        plan[kind] = 3;
+        assert_eq!(answer(&plan, 0), Some((4, kind)));
+    }
+}
