@@ -19,18 +19,20 @@ begin = record { at = 0; line = 0; words = 0; numbers = 0 }
 abbrev pub ended : List ℕ → Progress → Step → Reading → Type 0
 ended text r step read = (plan : List ℕ) → (numbers : List Float) → stepped text r plan plan numbers numbers step read
 
--- m is the sum of the words of `count` clip lines
+-- `count` clip lines have one word each, and m is their sum
 unfoldable pub sampled : ℕ → ℕ → Reading → Type 0
 sampled count m (bad n) = Unit {0}
-sampled count m (got ws bs rest n) = (m ≡ total (λ c. getD ws c 0) count) × (m ≤ count * maxSamples)
+sampled count m (got ws bs rest n) = (length ws ≡ count) × (m ≡ total (λ c. getD ws c 0) count) × (m ≤ count * maxSamples)
 
--- the last part of readFigure, by its counts
+-- the last parts of readFigure, by their counts
+unfoldable pub readPoses : ℕ → List ℕ → Reading
+readPoses count s = andThen (times count (readLine Pose) s) (λ _. readEnd)
+
 unfoldable pub readMotion : ℕ → ℕ → ℕ → List ℕ → Reading
 readMotion joints clips states s =
     andThen (times clips (readLine Clip) s) (λ samples s₁.
-    andThen (times states readState s₁) (λ _ s₂.
-    andThen (times (total (λ c. getD samples c 0) clips * joints) (readLine Pose) s₂) (λ _.
-    readEnd)))
+    andThen (times states readState s₁) (λ _.
+    readPoses (total (λ c. getD samples c 0) clips * joints)))
 
 -- a text without a bad line, and how many words and numbers it has
 pub record Judged (words numbers : ℕ) (read : Reading) : Type 0 where

@@ -2,10 +2,11 @@
 use Prim.Native.Nat.{ℕ, _+_, _*_, _≤_}
 use mathlib.Core.Path.{_≡_}
 use mathlib.Core.List.{List}
-use lib.ListN.{length, drop}
+use lib.ListN.{length, take, drop}
 use lib.Seq.{sets}
 use lib.Ieee.{Float}
-use Rattle.model.specs.Text.{Reading, bad, got, floatsOf}
+use Rattle.model.specs.declared.LineKind.{LineKind}
+use Rattle.model.specs.Text.{fieldCount, line, lineIn, Reading, bad, got, floatsOf}
 use Rattle.text.specs.declared.put.Progress.{Progress}
 use Rattle.text.specs.declared.put.Step.{Step}
 use Rattle.text.specs.declared.put.Step.the-variants as step
@@ -14,6 +15,12 @@ use Rattle.text.specs.declared.put.Step.the-variants as step
 pub record InText (text : List ℕ) (r : Progress) : Type 0 where
   pub spent : 3 * r .line + 2 * r .words + 9 * r .numbers ≤ r .at
   pub inside : r .at ≤ length text
+
+-- at r a line of a kind, with its values in front of an array, and the place behind it
+pub record LineAt (kind : LineKind) (text values : List ℕ) (r : Progress) (end : ℕ) : Type 0 where
+  pub here : InText text r
+  pub reading : lineIn kind (drop (r .at) text) ≡ line (take (fieldCount kind) values) (drop end text)
+  pub inside : end ≤ length text
 
 -- From r to q: the words and the floats of the bits stand in the slices from r's counts on
 pub record Moved (text ws bs rest : List ℕ) (lines : ℕ) (r q : Progress) (planOld planNew : List ℕ) (numbersOld numbersNew : List Float) : Type 0 where
@@ -30,5 +37,5 @@ pub record Moved (text ws bs rest : List ℕ) (lines : ℕ) (r q : Progress) (pl
 unfoldable pub stepped : List ℕ → Progress → List ℕ → List ℕ → List Float → List Float → Step → Reading → Type 0
 stepped text r planOld planNew numbersOld numbersNew (step.Next q) (got ws bs rest n) = Moved text ws bs rest n r q planOld planNew numbersOld numbersNew
 stepped text r planOld planNew numbersOld numbersNew (step.Next q) (bad n) = ⊥
-stepped text r planOld planNew numbersOld numbersNew (step.Malformed line) (got ws bs rest n) = ⊥
-stepped text r planOld planNew numbersOld numbersNew (step.Malformed line) (bad n) = line ≡ r .line + n
+stepped text r planOld planNew numbersOld numbersNew (step.Malformed m) (got ws bs rest n) = ⊥
+stepped text r planOld planNew numbersOld numbersNew (step.Malformed m) (bad n) = m ≡ r .line + n

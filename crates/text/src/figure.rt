@@ -15,7 +15,7 @@ ghost use Rattle.model.specs.Promises.{TextRead};
 ghost use Rattle.model.specs.Text.{readLine, readState, times, readEnd, readFigure};
 ghost use Rattle.model.specs.declared.LineKind.the-variants as LineKind;
 ghost use Rattle.text.specs.Steps.{InText, stepped};
-ghost use Rattle.text.specs.Figures.{sampled, ended, readMotion, begin, Judged};
+ghost use Rattle.text.specs.Figures.{sampled, ended, readPoses, readMotion, begin, Judged};
 
 // ---- states
 
@@ -130,6 +130,24 @@ fn read_end(text: &[u8], from: Progress) -> Step
     Step::Next(from)
 }
 
+// The poses are the last lines.
+fn read_poses(
+    text: &[u8],
+    count: usize,
+    from: Progress,
+    plan: &mut [u16],
+    numbers: &mut [f32],
+) -> Step
+    requires { ⌜ InText (now text) from ⌝ }
+    ensures { λ r. ⌜ stepped (now (text .entry)) from (now (plan .entry)) (now (plan .exit)) (now (numbers .entry)) (now (numbers .exit)) r (readPoses count (drop (from .at) (now (text .entry)))) ⌝ }
+{
+    let step = read_lines(text, LineKind::Pose, count, from, plan, numbers);
+    let Step::Next(behind) = step else {
+        return step;
+    };
+    read_end(text, behind)
+}
+
 // Clips, states and poses, for the header's counts.
 fn read_motion(
     text: &[u8],
@@ -153,11 +171,7 @@ fn read_motion(
         return states_step;
     };
     let poses = clips_read.samples * joints;
-    let poses_step = read_lines(text, LineKind::Pose, poses, behind_states, plan, numbers);
-    let Step::Next(behind_poses) = poses_step else {
-        return poses_step;
-    };
-    read_end(text, behind_poses)
+    read_poses(text, poses, behind_states, plan, numbers)
 }
 
 fn read_figure(text: &[u8], plan: &mut [u16], numbers: &mut [f32]) -> Step

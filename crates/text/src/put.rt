@@ -10,8 +10,8 @@ ghost use mathlib.Core.List.{[], _∷_};
 ghost use Prim.Native.Nat.{ℕ, _+_, _*_, _<_, _≤_, _^_};
 ghost use lib.ListN.{length, getD, take, drop};
 ghost use lib.Seq.{sets};
-ghost use Rattle.model.specs.Text.{decimalCount, bitsCount, fieldCount, lineIn, line, fromLine, readLine, times, floatsOf};
-ghost use Rattle.text.specs.Steps.{InText, Moved, stepped};
+ghost use Rattle.model.specs.Text.{decimalCount, bitsCount, readLine, times, floatsOf};
+ghost use Rattle.text.specs.Steps.{InText, LineAt, Moved, stepped};
 
 // The place in the text, and how many lines, words and numbers stand before it.
 pub struct Progress {
@@ -45,7 +45,7 @@ fn put_number(numbers: &mut [f32], at: usize, bits: usize)
 }
 
 fn put_words(plan: &mut [u16], at: usize, values: &[usize; 8], count: usize)
-    requires { ⌜ (count ≤ 8) × (at + 8 < 2 ^ 64) × ((k : ℕ) → k < count → getD (now values) k 0 < 65536) ⌝ }
+    requires { ⌜ (count ≤ 8) × (count ≤ length (now values)) × (at + 8 < 2 ^ 64) × ((k : ℕ) → k < count → getD (now values) k 0 < 65536) ⌝ }
     ensures { λ _. ⌜ now (plan .exit) ≡ sets (now (plan .entry)) at (take count (now (values .entry))) ⌝ }
 {
     let mut k = 0;
@@ -56,7 +56,7 @@ fn put_words(plan: &mut [u16], at: usize, values: &[usize; 8], count: usize)
 }
 
 fn put_numbers(numbers: &mut [f32], at: usize, values: &[usize; 8], from: usize, count: usize)
-    requires { ⌜ (from + count ≤ 8) × (at + 8 < 2 ^ 64) × ((k : ℕ) → k < count → getD (now values) (from + k) 0 < 2 ^ 32) ⌝ }
+    requires { ⌜ (from + count ≤ 8) × (from + count ≤ length (now values)) × (at + 8 < 2 ^ 64) × ((k : ℕ) → k < count → getD (now values) (from + k) 0 < 2 ^ 32) ⌝ }
     ensures { λ _. ⌜ now (numbers .exit) ≡ sets (now (numbers .entry)) at (floatsOf (take count (drop from (now (values .entry))))) ⌝ }
 {
     let mut k = 0;
@@ -76,7 +76,7 @@ pub fn put_line(
     plan: &mut [u16],
     numbers: &mut [f32],
 ) -> Progress
-    requires { ⌜ InText (now text) from × (lineIn kind (drop (from .at) (now text)) ≡ line (take (fieldCount kind) (now values)) (drop end (now text))) × (end ≤ length (now text)) ⌝ }
+    requires { ⌜ LineAt kind (now text) (now values) from end ⌝ }
     ensures { λ r. ⌜ Moved (now (text .entry)) (take (decimalCount kind) (now (values .entry))) (take (bitsCount kind) (drop (decimalCount kind) (now (values .entry)))) (drop end (now (text .entry))) 1 from r (now (plan .entry)) (now (plan .exit)) (now (numbers .entry)) (now (numbers .exit)) ⌝ }
 {
     let words = decimal_count(kind);

@@ -1,0 +1,192 @@
+-- The parts of a figure: how their steps follow one another, over plain values. Assumes nothing.
+use Prim.Native.Nat.{ℕ, suc, _+_, _*_, _≤_, _<_, _^_}
+use native.Mathlib.Nat.{mul-le-mul}
+use native.Mathlib.Numerals.{add-one}
+use native.Mathlib.Omega.{arith}
+use mathlib.Core.Path.{_≡_, refl, sym, ap, subst, _∙_}
+use mathlib.Core.List.{List, [], _∷_, _++_, map, map-append}
+use lib.Ieee.{Float, binary32, ofBits}
+use lib.ListN.{length, getD, take, drop, length-drop, length-append, length-map, drop-of-length-le, List·getD-append}
+use lib.Seq.{sets, getD-take, getD-append-seam}
+use borrow.Author.Tests.{eq-eqb, ne-eqb}
+use denote.Enum.Declared.{tagOf}
+use Rattle.model.specs.declared.LineKind.the-variants.{Figure, Joint, Clip, State, Node, Go, Pose}
+use Rattle.model.specs.Text.{fieldCount, lineIn, limits, bitsCount, Reading, bad, got, prefixed, andThen, times, floatsOf, readLine, fromState, readState, readEnd, readWords}
+use Rattle.model.specs.Plan.{maxJoints, maxClips, maxSamples, total}
+use Rattle.model.specs.Laws.Totals.{total-same}
+use Rattle.lines.specs.declared.LineEnd.{LineEnd}
+use Rattle.text.specs.declared.put.Progress.{Progress}
+use Rattle.text.specs.declared.put.Step.{Step}
+use Rattle.text.specs.declared.put.Step.the-variants.{Next, Malformed}
+use Rattle.text.specs.Figures.{sampled, readPoses, readMotion}
+use Rattle.lines.specs.Found.{lineFound}
+use Rattle.text.specs.Steps.{InText, LineAt, Moved, stepped}
+use Rattle.lines.proofs.LineEnd.{the-type as end-type}
+use Rattle.text.proofs.put.Step.{the-type as step-type}
+use Rattle.text.proofs.Laws.{take-next, sets-more, follows, goes, stops, moved-nothing}
+use Rattle.text.proofs.LineLaws.{line-bad, line-read, line-bytes, field-count, word-limit}
+
+-- ---- the end
+
+module _ (text : List ℕ) (r : Progress) (p : List ℕ) (n : List Float) where
+  pub end-stops : r .at < length text → stepped text r p p n n (Malformed (r .line + 1)) (readEnd (drop (r .at) text))
+  unfolding stepped readEnd
+  end-stops h = rw (ne-eqb (length (drop (r .at) text)) 0 (λ e. omega (arith, length-drop (r .at) text)))
+
+  pub end-steps : InText text r → length text ≤ r .at → stepped text r p p n n (Next r) (readEnd (drop (r .at) text))
+  unfolding stepped readEnd
+  end-steps i h = rw (eq-eqb (length (drop (r .at) text)) 0 (omega (arith, length-drop (r .at) text))) (moved-nothing text r [] p n i (sym (drop-of-length-le text h)))
+
+-- ---- a state: its counts stand in one line of the text, and apart in the plan
+
+pub state-stops : (text values : List ℕ) (r : Progress) (found : LineEnd) → lineFound text (take (fieldCount State) values) found (lineIn State (drop (r .at) text))
+    → (p₀ p₁ : List ℕ) (n₀ n₁ : List Float) → tagOf end-type found ≡ 1 → stepped text r p₀ p₁ n₀ n₁ (Malformed (r .line + 1)) (readState (drop (r .at) text))
+unfolding stepped readState fromState
+state-stops text values r found told p₀ p₁ n₀ n₁ t = rw (line-bad State text values r found told t)
+
+module _ {text values : List ℕ} {r : Progress} {at : ℕ} (l : LineAt State text values r at) where
+  abbrev nodes : ℕ
+  nodes = getD values 0 0
+
+  abbrev transitions : ℕ
+  transitions = getD values 1 0
+
+  -- behind the line, with the count of nodes put into the plan
+  abbrev pub first : Progress
+  first = record { at = at; line = r .line + 1; words = r .words + 1; numbers = r .numbers }
+
+  -- where the nodes end, with the count of transitions put into the plan
+  abbrev pub behind : Progress → Progress
+  behind q = record { at = q .at; line = q .line; words = q .words + 1; numbers = q .numbers }
+
+  bytes : r .at + 7 ≤ at
+  unfolding limits bitsCount
+  bytes = omega (arith, line-bytes l)
+
+  pub first-here : InText text first
+  first-here = let b = bytes in record { spent = omega (arith, l .here .spent); inside = l .inside }
+
+  afterNodes : List ℕ → Reading
+  afterNodes s = prefixed (transitions ∷ []) [] 0 (times transitions (readLine Go) s)
+
+  state-read : readState (drop (r .at) text) ≡ prefixed (nodes ∷ []) [] 1 (andThen (times nodes (readLine Node) (drop at text)) (λ _. afterNodes))
+  unfolding readState fromState limits bitsCount afterNodes
+  state-read = rw (line-read l, getD-take 2 values 0 0 (omega arith), getD-take 2 values 1 0 (omega arith))
+
+  module _ (p₁ p₂ : List ℕ) (n₀ n₁ : List Float) (step : Step) (a : stepped text first p₁ p₂ n₀ n₁ step (times nodes (readLine Node) (drop at text))) where
+    -- the line had room for the count of transitions too
+    pub behind-here : (q : Progress) → step ≡ Next q → InText text (behind q)
+    unfolding stepped
+    behind-here q e = to (times nodes (readLine Node) (drop at text)) (subst (λ (s : Step). stepped text first p₁ p₂ n₀ n₁ s (times nodes (readLine Node) (drop at text))) e a)
+      where
+        to : (x : Reading) → stepped text first p₁ p₂ n₀ n₁ (Next q) x → InText text (behind q)
+        to (got ws bs rest n) m = let b = bytes in record { spent = omega (arith, l .here .spent); inside = m .inside }
+        to (bad n) m = absurd m
+
+    module _ (p₀ : List ℕ) (put : p₁ ≡ sets p₀ (r .words) (nodes ∷ [])) where
+      pub nodes-stop : tagOf step-type step ≡ 1 → stepped text r p₀ p₂ n₀ n₁ step (readState (drop (r .at) text))
+      nodes-stop t =
+          let b = bytes in
+          rw state-read (follows text r first p₀ p₁ p₂ n₀ n₀ n₁ (nodes ∷ []) [] 1 step _
+            record { left = refl; inside = l .inside; spent = omega arith; line = refl; words = refl; numbers = omega arith; plan = put; floats = refl }
+            (stops text first p₁ p₂ n₀ n₁ (times nodes (readLine Node) (drop at text)) step a (λ _. afterNodes) t))
+
+      pub state-steps : (q : Progress) (p₃ p₄ : List ℕ) (n₂ : List Float) (last : Step) → step ≡ Next q → p₃ ≡ sets p₂ (q .words) (transitions ∷ [])
+          → stepped text (behind q) p₃ p₄ n₁ n₂ last (times transitions (readLine Go) (drop (q .at) text)) → stepped text r p₀ p₄ n₀ n₂ last (readState (drop (r .at) text))
+      unfolding stepped prefixed andThen afterNodes
+      state-steps q p₃ p₄ n₂ last e then b =
+          rw state-read (of (times nodes (readLine Node) (drop at text)) (subst (λ (s : Step). stepped text first p₁ p₂ n₀ n₁ s (times nodes (readLine Node) (drop at text))) e a))
+        where
+          of : (x : Reading) → stepped text first p₁ p₂ n₀ n₁ (Next q) x → stepped text r p₀ p₄ n₀ n₂ last (prefixed (nodes ∷ []) [] 1 (andThen x (λ _. afterNodes)))
+          of (bad n) m = absurd m
+          of (got ws bs rest n) m = rw (m .left) (both last (times transitions (readLine Go) (drop (q .at) text)) b)
+            where
+              both : (last : Step) (y : Reading) → stepped text (behind q) p₃ p₄ n₁ n₂ last y
+                  → stepped text r p₀ p₄ n₀ n₂ last (prefixed (nodes ∷ []) [] 1 (prefixed ws bs n (prefixed (transitions ∷ []) [] 0 y)))
+              both (Next z) (bad k) g = g
+              both (Malformed k) (got vs cs left k′) g = g
+              both (Malformed k) (bad k′) g = omega arith
+              both (Next z) (got vs cs left k) g =
+                  let room = bytes in
+                  let lw = length-append ws (transitions ∷ vs) in
+                  let lb = length-append bs cs in
+                  let lf : length (floatsOf bs) ≡ length bs = length-map bs (ofBits binary32) in
+                  record {
+                    left = g .left;
+                    inside = g .inside;
+                    spent = omega arith;
+                    line = omega arith;
+                    words = omega arith;
+                    numbers = omega arith;
+                    plan = sets-more p₀ p₁ p₄ (r .words) (r .words + 1) (nodes ∷ []) (ws ++ (transitions ∷ vs)) put refl
+                      (sets-more p₁ p₂ p₄ (r .words + 1) (q .words) ws (transitions ∷ vs) (m .plan) (m .words)
+                      (sets-more p₂ p₃ p₄ (q .words) (q .words + 1) (transitions ∷ []) vs then refl (g .plan)));
+                    floats = rw (map-append (ofBits binary32) bs cs) (sets-more n₀ n₁ n₂ (r .numbers) (q .numbers) (floatsOf bs) (floatsOf cs) (m .floats) (omega arith) (g .floats));
+                  }
+
+-- ---- clips, whose samples are summed up
+
+total-more : (ws : List ℕ) (v : ℕ) → total (λ c. getD (ws ++ (v ∷ [])) c 0) (suc (length ws)) ≡ total (λ c. getD ws c 0) (length ws) + v
+unfolding total
+total-more ws v =
+    let same = total-same (λ c. getD (ws ++ (v ∷ [])) c 0) (λ c. getD ws c 0) (length ws) (List·getD-append ws (v ∷ []) 0) in
+    rw (same, getD-append-seam ws v [] 0)
+
+module _ {text values : List ℕ} {q : Progress} {at : ℕ} (l : LineAt Clip text values q at) where
+  pub few-samples : getD values 0 0 ≤ maxSamples
+  unfolding limits
+  few-samples = word-limit l 0 (omega arith)
+
+  pub sampled-next : (r : Progress) (p₀ p₁ : List ℕ) (n₀ n₁ : List Float) (i m : ℕ)
+      → stepped text r p₀ p₁ n₀ n₁ (Next q) (times i (readLine Clip) (drop (r .at) text)) → sampled i m (times i (readLine Clip) (drop (r .at) text))
+      → sampled (i + 1) (m + getD values 0 0) (times (i + 1) (readLine Clip) (drop (r .at) text))
+  unfolding stepped sampled andThen prefixed times limits bitsCount
+  sampled-next r p₀ p₁ n₀ n₁ i m a b = rw add-one (more (times i (readLine Clip) (drop (r .at) text)) a b)
+    where
+      more : (x : Reading) → stepped text r p₀ p₁ n₀ n₁ (Next q) x → sampled i m x → sampled (suc i) (m + getD values 0 0) (andThen x (λ _. readLine Clip))
+      more (bad n) a b = absurd a
+      more (got ws bs rest n) a b =
+          let v = getD values 0 0 in
+          let long = field-count l .1 in
+          let few = few-samples in
+          let one : take 1 values ≡ v ∷ [] = take-next values 0 (omega arith) in
+          let sum : total (λ c. getD (ws ++ (v ∷ [])) c 0) (suc i) ≡ total (λ c. getD ws c 0) i + v = rw (b .0) at (total-more ws v) in
+          rw (a .left, line-read l, one, length-append, sum) (omega arith, omega arith, omega arith)
+
+pub sampled-start : (s : List ℕ) → sampled 0 0 (times 0 (readLine Clip) s)
+unfolding sampled times total
+sampled-start s = (refl, refl, omega arith)
+
+pub sampled-ends : (s : List ℕ) (i count m : ℕ) → sampled i m (times i (readLine Clip) s) → i ≤ count → count ≤ i → sampled count m (times count (readLine Clip) s)
+sampled-ends s i count m a h k = let e : count ≡ i = omega arith in rw e a
+
+pub sampled-bad : (text : List ℕ) (r : Progress) (p₀ p₁ : List ℕ) (n₀ n₁ : List Float) (x : Reading) (line count m : ℕ) → stepped text r p₀ p₁ n₀ n₁ (Malformed line) x → sampled count m x
+unfolding stepped sampled
+sampled-bad text r p₀ p₁ n₀ n₁ (got ws bs rest n) line count m a = absurd a
+sampled-bad text r p₀ p₁ n₀ n₁ (bad n) line count m a = tt
+
+-- ---- clips, states and poses
+
+pub sampled-sum : (text : List ℕ) (r q : Progress) (p₀ p₁ : List ℕ) (n₀ n₁ : List Float) (x : Reading) (count m : ℕ) (step : Step)
+    → step ≡ Next q → stepped text r p₀ p₁ n₀ n₁ step x → sampled count m x → (m ≡ total (λ c. getD (readWords x) c 0) count) × (m ≤ count * maxSamples)
+unfolding stepped sampled readWords
+sampled-sum text r q p₀ p₁ n₀ n₁ (got ws bs rest n) count m step e a b = (b .1, b .2)
+sampled-sum text r q p₀ p₁ n₀ n₁ (bad n) count m step e a b = absurd (subst (λ (s : Step). stepped text r p₀ p₁ n₀ n₁ s (bad n)) e a)
+
+pub poses-fit : (m joints clips : ℕ) → m ≤ clips * maxSamples → clips ≤ maxClips → joints ≤ maxJoints → m * joints < 2 ^ 64
+poses-fit m joints clips h k l = let few : m ≤ 65536 = omega arith in omega (arith, mul-le-mul few l)
+
+module _ (text : List ℕ) (joints clips states : ℕ) (r : Progress) (p₀ p₁ : List ℕ) (n₀ n₁ : List Float) (first : Step)
+    (a : stepped text r p₀ p₁ n₀ n₁ first (times clips (readLine Clip) (drop (r .at) text))) where
+  pub clips-stop : tagOf step-type first ≡ 1 → stepped text r p₀ p₁ n₀ n₁ first (readMotion joints clips states (drop (r .at) text))
+  unfolding readMotion
+  clips-stop t = stops text r p₀ p₁ n₀ n₁ (times clips (readLine Clip) (drop (r .at) text)) first a _ t
+
+  -- behind m samples come the states and m poses of each joint
+  pub clips-then : (q : Progress) (m : ℕ) (p₂ : List ℕ) (n₂ : List Float) (step : Step) → first ≡ Next q → sampled clips m (times clips (readLine Clip) (drop (r .at) text))
+      → stepped text q p₁ p₂ n₁ n₂ step (andThen (times states readState (drop (q .at) text)) (λ _. readPoses (m * joints)))
+      → stepped text r p₀ p₂ n₀ n₂ step (readMotion joints clips states (drop (r .at) text))
+  unfolding readMotion
+  clips-then q m p₂ n₂ step e s b =
+      let sum = sampled-sum text r q p₀ p₁ n₀ n₁ (times clips (readLine Clip) (drop (r .at) text)) clips m first e a s .0 in
+      goes text r q p₀ p₁ p₂ n₀ n₁ n₂ (times clips (readLine Clip) (drop (r .at) text)) _ first step e a (rw sum at b)

@@ -1,0 +1,143 @@
+-- How steps of a reading follow one another, over plain values. Assumes nothing.
+use Prim.Native.Nat.{ℕ, zero, suc, _+_, _-_, _*_, _≤_, _<_}
+use native.Mathlib.Nat.{add-zero, add-suc, suc-add}
+use native.Mathlib.Numerals.{add-one}
+use native.Mathlib.Omega.{arith}
+use mathlib.Core.Path.{_≡_, refl, sym, ap, subst, _∙_}
+use mathlib.Core.List.{List, [], _∷_, _++_, map, map-append}
+use lib.Ieee.{Float, binary32, ofBits}
+use lib.ListN.{length, getD, set, take, drop, length-append, length-map}
+use lib.Seq.{sets, take-suc, length-take-le}
+use denote.Enum.Declared.{tagOf}
+use Rattle.model.specs.Text.{Reading, bad, got, prefixed, andThen, times, floatsOf, readWords}
+use Rattle.text.specs.declared.put.Progress.{Progress}
+use Rattle.text.specs.declared.put.Step.{Step}
+use Rattle.text.specs.declared.put.Step.the-variants.{Next, Malformed}
+use Rattle.text.specs.Steps.{InText, Moved, stepped}
+use Rattle.text.proofs.put.Step.{the-type as step-type}
+
+-- ---- runs of stores
+
+module _ {ℓ} {A : Type ℓ} where
+  pub sets-append : (xs : List A) (n : ℕ) (us vs : List A) → sets (sets xs n us) (n + length us) vs ≡ sets xs n (us ++ vs)
+  sets-append xs n [] vs = rw add-zero
+  sets-append xs n (a ∷ us) vs = rw (add-suc, ← suc-add) (sets-append (set xs n a) (suc n) us vs)
+
+  -- stores behind those that were made before
+  pub sets-more : (xs ys zs : List A) (n m : ℕ) (us vs : List A) → ys ≡ sets xs n us → m ≡ n + length us → zs ≡ sets ys m vs → zs ≡ sets xs n (us ++ vs)
+  sets-more xs ys zs n m us vs p e q = q ∙ rw (p, e) (sets-append xs n us vs)
+
+pub take-next : (vs : List ℕ) (k : ℕ) → k < length vs → take (k + 1) vs ≡ take k vs ++ (getD vs k 0 ∷ [])
+take-next vs k h = rw add-one (take-suc vs k 0 h)
+
+-- one more word in the plan, and one more float in the numbers
+pub word-next : (xs ys zs vs : List ℕ) (n k : ℕ) → k < length vs → ys ≡ sets xs n (take k vs) → zs ≡ sets ys (n + k) (getD vs k 0 ∷ []) → zs ≡ sets xs n (take (k + 1) vs)
+word-next xs ys zs vs n k h p q =
+    let l = length-take-le k vs (omega arith) in
+    rw (take-next vs k h) (sets-more xs ys zs n (n + k) (take k vs) (getD vs k 0 ∷ []) p (omega arith) q)
+
+pub float-next : (xs ys zs : List Float) (vs : List ℕ) (n k : ℕ) → k < length vs → ys ≡ sets xs n (floatsOf (take k vs))
+    → zs ≡ sets ys (n + k) (floatsOf (getD vs k 0 ∷ [])) → zs ≡ sets xs n (floatsOf (take (k + 1) vs))
+float-next xs ys zs vs n k h p q =
+    let l = length-take-le k vs (omega arith) in
+    let m : length (floatsOf (take k vs)) ≡ length (take k vs) = length-map (take k vs) (ofBits binary32) in
+    rw (take-next vs k h, map-append) (sets-more xs ys zs n (n + k) (floatsOf (take k vs)) (floatsOf (getD vs k 0 ∷ [])) p (omega arith) q)
+
+-- ---- one reading after another
+
+module _ (text : List ℕ) (r : Progress) (p₀ p₁ : List ℕ) (n₀ n₁ : List Float) (x : Reading) (step : Step) (a : stepped text r p₀ p₁ n₀ n₁ step x) where
+  -- after a bad line nothing is read
+  pub stops : (next : List ℕ → List ℕ → Reading) → tagOf step-type step ≡ 1 → stepped text r p₀ p₁ n₀ n₁ step (andThen x next)
+  unfolding stepped andThen
+  stops next t = at x step t a
+    where
+      at : (x : Reading) (step : Step) → tagOf step-type step ≡ 1 → stepped text r p₀ p₁ n₀ n₁ step x → stepped text r p₀ p₁ n₀ n₁ step (andThen x next)
+      at x (Next z) t a = absurd (omega (arith, t))
+      at (got ws bs rest n) (Malformed l) t a = absurd a
+      at (bad n) (Malformed l) t a = a
+
+  pub arrives : (q : Progress) → InText text r → step ≡ Next q → InText text q
+  unfolding stepped
+  arrives q i e = at x (subst (λ (s : Step). stepped text r p₀ p₁ n₀ n₁ s x) e a)
+    where
+      at : (x : Reading) → stepped text r p₀ p₁ n₀ n₁ (Next q) x → InText text q
+      at (got ws bs rest n) a = record { spent = omega arith; inside = a .inside }
+      at (bad n) a = absurd a
+
+-- to stay is a step too
+pub moved-nothing : (text : List ℕ) (r : Progress) (rest p : List ℕ) (n : List Float) → InText text r → rest ≡ drop (r .at) text → Moved text [] [] rest 0 r r p p n n
+moved-nothing text r rest p n h e =
+    record {
+      left = e;
+      inside = h .inside;
+      spent = omega arith;
+      line = omega arith;
+      words = omega arith;
+      numbers = omega arith;
+      plan = refl;
+      floats = refl;
+    }
+
+module _ (text : List ℕ) (r q : Progress) (p₀ p₁ p₂ : List ℕ) (n₀ n₁ n₂ : List Float) where
+  moved-more : (ws bs rest ws′ bs′ rest′ : List ℕ) (n m : ℕ) (z : Progress)
+      → Moved text ws bs rest n r q p₀ p₁ n₀ n₁ → Moved text ws′ bs′ rest′ m q z p₁ p₂ n₁ n₂ → Moved text (ws ++ ws′) (bs ++ bs′) rest′ (n + m) r z p₀ p₂ n₀ n₂
+  moved-more ws bs rest ws′ bs′ rest′ n m z a b =
+      let lw = length-append ws ws′ in
+      let lb = length-append bs bs′ in
+      let lf : length (floatsOf bs) ≡ length bs = length-map bs (ofBits binary32) in
+      record {
+        left = b .left;
+        inside = b .inside;
+        spent = omega arith;
+        line = omega arith;
+        words = omega arith;
+        numbers = omega arith;
+        plan = sets-more p₀ p₁ p₂ (r .words) (q .words) ws ws′ (a .plan) (a .words) (b .plan);
+        floats = rw map-append (sets-more n₀ n₁ n₂ (r .numbers) (q .numbers) (floatsOf bs) (floatsOf bs′) (a .floats) (omega arith) (b .floats));
+      }
+
+  -- what is read behind what was read before
+  pub follows : (ws bs : List ℕ) (n : ℕ) (step : Step) (x : Reading) → Moved text ws bs (drop (q .at) text) n r q p₀ p₁ n₀ n₁
+      → stepped text q p₁ p₂ n₁ n₂ step x → stepped text r p₀ p₂ n₀ n₂ step (prefixed ws bs n x)
+  unfolding stepped prefixed
+  follows ws bs n (Next z) (got ws′ bs′ rest m) a b = moved-more ws bs (drop (q .at) text) ws′ bs′ rest n m z a b
+  follows ws bs n (Next z) (bad m) a b = b
+  follows ws bs n (Malformed l) (got ws′ bs′ rest m) a b = b
+  follows ws bs n (Malformed l) (bad m) a b = omega arith
+
+  pub goes : (x : Reading) (next : List ℕ → List ℕ → Reading) (first last : Step) → first ≡ Next q → stepped text r p₀ p₁ n₀ n₁ first x
+      → stepped text q p₁ p₂ n₁ n₂ last (next (readWords x) (drop (q .at) text)) → stepped text r p₀ p₂ n₀ n₂ last (andThen x next)
+  unfolding stepped andThen readWords
+  goes x next first last e a b = at x (subst (λ (s : Step). stepped text r p₀ p₁ n₀ n₁ s x) e a) b
+    where
+      at : (x : Reading) → stepped text r p₀ p₁ n₀ n₁ (Next q) x → stepped text q p₁ p₂ n₁ n₂ last (next (readWords x) (drop (q .at) text)) → stepped text r p₀ p₂ n₀ n₂ last (andThen x next)
+      at (got ws bs rest n) a b = follows ws bs n last (next ws rest) (rw (a .left) at a) (rw (a .left) b)
+      at (bad n) a b = absurd a
+
+-- ---- a loop of readings
+
+module _ (text : List ℕ) (r : Progress) (p₀ : List ℕ) (n₀ : List Float) (read : List ℕ → Reading) where
+  pub times-start : InText text r → stepped text r p₀ p₀ n₀ n₀ (Next r) (times 0 read (drop (r .at) text))
+  unfolding stepped times
+  times-start h = moved-nothing text r (drop (r .at) text) p₀ n₀ h refl
+
+  module _ (q : Progress) (p₁ : List ℕ) (n₁ : List Float) (i : ℕ) (so-far : stepped text r p₀ p₁ n₀ n₁ (Next q) (times i read (drop (r .at) text))) where
+    pub times-ends : (count : ℕ) → i ≤ count → count ≤ i → stepped text r p₀ p₁ n₀ n₁ (Next q) (times count read (drop (r .at) text))
+    times-ends count h k = let e : count ≡ i = omega arith in rw e so-far
+
+    module _ (p₂ : List ℕ) (n₂ : List Float) (step : Step) (this : stepped text q p₁ p₂ n₁ n₂ step (read (drop (q .at) text))) where
+      next : stepped text r p₀ p₂ n₀ n₂ step (times (suc i) read (drop (r .at) text))
+      unfolding times
+      next = goes text r q p₀ p₁ p₂ n₀ n₁ n₂ (times i read (drop (r .at) text)) (λ _. read) (Next q) step refl so-far this
+
+      pub times-next : (z : Progress) → step ≡ Next z → stepped text r p₀ p₂ n₀ n₂ (Next z) (times (i + 1) read (drop (r .at) text))
+      times-next z e = rw (add-one, ← e) next
+
+      -- a bad line among the first i + 1 readings is the bad line of all
+      pub times-stops : (count : ℕ) → i < count → tagOf step-type step ≡ 1 → stepped text r p₀ p₂ n₀ n₂ step (times count read (drop (r .at) text))
+      unfolding times
+      times-stops count h t = let e : count ≡ suc i + (count - suc i) = omega arith in rw e (more (count - suc i))
+        where
+          more : (k : ℕ) → stepped text r p₀ p₂ n₀ n₂ step (times (suc i + k) read (drop (r .at) text))
+          more zero = rw add-zero next
+          more (suc k) = rw add-suc (stops text r p₀ p₂ n₀ n₂ (times (suc i + k) read (drop (r .at) text)) step (more k) (λ _. read) t)

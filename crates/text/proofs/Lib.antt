@@ -1,0 +1,4 @@
+pub mod Laws
+pub mod LineLaws
+pub mod FigureLaws
+pub mod ReadLaws
