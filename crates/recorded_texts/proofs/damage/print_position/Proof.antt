@@ -31,7 +31,7 @@ print-position-spec =
     print-damage-requires
     (search needs)
     (search needs)
+    (λ c. search needs)
     (search needs)
-    (search needs)
-    (search needs)
+    (λ c. search needs)
     (search needs))
