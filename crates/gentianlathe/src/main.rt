@@ -1,9 +1,9 @@
 // The program: reads a figure's text from standard input, starts it, and prints each joint's matrix of one frame, or the refusal.
 // `program::answer` does the work, on slices; here are only the reading and the writing.
-use program::answer;
 use libc::STDERR_FILENO;
 use libc::STDIN_FILENO;
 use libc::STDOUT_FILENO;
+use program::answer;
 ghost use Prim.Native.Nat.{_-_, _≤_};
 ghost use lib.ListN.{length};
 
@@ -61,13 +61,19 @@ fn main() {
     let mut text = [0u8; 65537];
     let input = read_input(&mut text);
     if input.failed {
-        io::write_all(STDERR_FILENO, b"gentianlathe: standard input cannot be read\n");
+        io::write_all(
+            STDERR_FILENO,
+            b"gentianlathe: standard input cannot be read\n",
+        );
         return;
     }
     let count = input.count;
     let mut out = [0u8; 9792];
     let length = answer(&text[..count], &mut out);
     if !io::write_all(STDOUT_FILENO, &out[..length]) {
-        io::write_all(STDERR_FILENO, b"gentianlathe: standard output cannot be written\n");
+        io::write_all(
+            STDERR_FILENO,
+            b"gentianlathe: standard output cannot be written\n",
+        );
     }
 }

@@ -1,7 +1,5 @@
 // The program's work: from the bytes of a text to the bytes that are printed.
 
-use printing::put_joints;
-use printing::put_refusal;
 use controller::frame;
 use controller::start;
 use layout::JOINT_COUNT_AT;
@@ -9,6 +7,8 @@ use layout::word;
 use model::Answer;
 use model::Player;
 use model::TextAnswer;
+use printing::put_joints;
+use printing::put_refusal;
 ghost use mathlib.Core.Path.{_≡_};
 ghost use Prim.Native.Nat.{_≤_};
 ghost use lib.ListN.{length, take};

@@ -3,14 +3,14 @@ use Prim.Native.Nat.{ℕ, suc, _+_, _*_, _≤_, _<_, _^_}
 use native.Mathlib.Nat.{mul-le-mul}
 use native.Mathlib.Numerals.{add-one}
 use native.Mathlib.Omega.{arith}
-use mathlib.Core.Path.{_≡_, refl, sym, ap, subst, _∙_}
-use mathlib.Core.List.{List, [], _∷_, _++_, map, map-append}
+use mathlib.Core.Path.{_≡_, refl, sym, subst}
+use mathlib.Core.List.{List, [], _∷_, _++_, map-append}
 use lib.Ieee.{Float, binary32, ofBits}
 use lib.ListN.{length, getD, take, drop, length-drop, length-append, length-map, drop-of-length-le, List·getD-append}
 use lib.Seq.{sets, getD-take, getD-append-seam}
 use borrow.Author.Tests.{eq-eqb, ne-eqb}
 use denote.Enum.Declared.{tagOf}
-use Rattle.model.specs.declared.LineKind.the-variants.{Figure, Joint, Clip, State, Node, Go, Pose}
+use Rattle.model.specs.declared.LineKind.the-variants.{Clip, State, Node, Go}
 use Rattle.model.specs.Text.{fieldCount, lineIn, limits, bitsCount, Reading, bad, got, prefixed, andThen, times, floatsOf, readLine, fromState, readState, readEnd, readWords}
 use Rattle.model.specs.Plan.{maxJoints, maxClips, maxSamples, total}
 use Rattle.model.specs.Laws.Totals.{total-same}
@@ -20,7 +20,7 @@ use Rattle.text.specs.declared.put.Step.{Step}
 use Rattle.text.specs.declared.put.Step.the-variants.{Next, Malformed}
 use Rattle.text.specs.Figures.{sampled, readPoses, readMotion}
 use Rattle.lines.specs.Found.{lineFound}
-use Rattle.text.specs.Steps.{InText, LineAt, Moved, stepped}
+use Rattle.text.specs.Steps.{InText, LineAt, stepped}
 use Rattle.lines.proofs.LineEnd.{the-type as end-type}
 use Rattle.text.proofs.put.Step.{the-type as step-type}
 use Rattle.text.proofs.Laws.{take-next, sets-more, follows, goes, stops, moved-nothing}
@@ -88,8 +88,8 @@ module _ {text values : List ℕ} {r : Progress} {at : ℕ} (l : LineAt State te
       nodes-stop t =
           let b = bytes in
           rw state-read (follows text r first p₀ p₁ p₂ n₀ n₀ n₁ (nodes ∷ []) [] 1 step _
-            record { left = refl; inside = l .inside; spent = omega arith; line = refl; words = refl; numbers = omega arith; plan = put; floats = refl }
-            (stops text first p₁ p₂ n₀ n₁ (times nodes (readLine Node) (drop at text)) step a (λ _. afterNodes) t))
+          record { left = refl; inside = l .inside; spent = omega arith; line = refl; words = refl; numbers = omega arith; plan = put; floats = refl }
+          (stops text first p₁ p₂ n₀ n₁ (times nodes (readLine Node) (drop at text)) step a (λ _. afterNodes) t))
 
       pub state-steps : (q : Progress) (p₃ p₄ : List ℕ) (n₂ : List Float) (last : Step) → step ≡ Next q → p₃ ≡ sets p₂ (q .words) (transitions ∷ [])
           → stepped text (behind q) p₃ p₄ n₁ n₂ last (times transitions (readLine Go) (drop (q .at) text)) → stepped text r p₀ p₄ n₀ n₂ last (readState (drop (r .at) text))
@@ -119,8 +119,8 @@ module _ {text values : List ℕ} {r : Progress} {at : ℕ} (l : LineAt State te
                     words = omega arith;
                     numbers = omega arith;
                     plan = sets-more p₀ p₁ p₄ (r .words) (r .words + 1) (nodes ∷ []) (ws ++ (transitions ∷ vs)) put refl
-                      (sets-more p₁ p₂ p₄ (r .words + 1) (q .words) ws (transitions ∷ vs) (m .plan) (m .words)
-                      (sets-more p₂ p₃ p₄ (q .words) (q .words + 1) (transitions ∷ []) vs then refl (g .plan)));
+                        (sets-more p₁ p₂ p₄ (r .words + 1) (q .words) ws (transitions ∷ vs) (m .plan) (m .words)
+                        (sets-more p₂ p₃ p₄ (q .words) (q .words + 1) (transitions ∷ []) vs then refl (g .plan)));
                     floats = rw (map-append (ofBits binary32) bs cs) (sets-more n₀ n₁ n₂ (r .numbers) (q .numbers) (floatsOf bs) (floatsOf cs) (m .floats) (omega arith) (g .floats));
                   }
 

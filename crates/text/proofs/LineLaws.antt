@@ -90,7 +90,7 @@ module _ {kind : LineKind} {text values : List ℕ} {r : Progress} {at : ℕ} (l
   pub line-moved : (d b : ℕ) (p₀ p₁ : List ℕ) (n₀ n₁ : List Float) → d ≡ decimalCount kind → b ≡ bitsCount kind
       → p₁ ≡ sets p₀ (r .words) (take d values) → n₁ ≡ sets n₀ (r .numbers) (floatsOf (take b (drop d values)))
       → Moved text (take (decimalCount kind) values) (take (bitsCount kind) (drop (decimalCount kind) values)) (drop at text) 1
-          r record { at = at; line = r .line + 1; words = r .words + d; numbers = r .numbers + b } p₀ p₁ n₀ n₁
+      r record { at = at; line = r .line + 1; words = r .words + d; numbers = r .numbers + b } p₀ p₁ n₀ n₁
   line-moved d b p₀ p₁ n₀ n₁ e f p n =
       let long = field-count .1 in
       let w = length-take-le (decimalCount kind) values (omega arith) in

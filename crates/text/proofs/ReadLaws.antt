@@ -2,9 +2,9 @@
 use Prim.Native.Nat.{ℕ, _+_, _≤_, _<_}
 use native.Mathlib.Nat.{zero-add}
 use native.Mathlib.Omega.{arith}
-use mathlib.Core.Path.{_≡_, refl, sym, ap, subst, _∙_}
-use mathlib.Core.Bool.{Bool, true, false, _&&_}
-use mathlib.Core.List.{List, [], _∷_, _++_, map}
+use mathlib.Core.Path.{_≡_, refl, ap, subst, _∙_}
+use mathlib.Core.Bool.{false, _&&_}
+use mathlib.Core.List.{List, [], _∷_, _++_}
 use lib.Dec.{leb}
 use lib.Ieee.{Float, binary32, ofBits}
 use lib.ListN.{length, getD, take, drop, length-map}
@@ -61,18 +61,27 @@ module _ {text values : List ℕ} {at : ℕ} (l : LineAt Figure text values begi
     unfolding readFigure readMotion readPoses jointCount clipCount stateCount word
     header-then p₂ n₂ step b =
         goes text begin q p₀ p₁ p₂ n₀ n₁ n₂ (readLine Figure text) _ (Next q) step refl (line-steps l q p₀ p₁ n₀ n₁ m)
-          (rw (count-in 0 (omega arith), count-in 1 (omega arith), count-in 3 (omega arith)) b)
+        (rw (count-in 0 (omega arith), count-in 1 (omega arith), count-in 3 (omega arith)) b)
 
 -- ---- the first pass, which judges
 
-pub judged : (text p₀ p₁ : List ℕ) (n₀ n₁ : List Float) (x : Reading) (step : Step) (q : Progress) → stepped text begin p₀ p₁ n₀ n₁ step x → step ≡ Next q → Judged (q .words) (q .numbers) x
+pub judged : (text p₀ p₁ : List ℕ) (n₀ n₁ : List Float) (x : Reading) (step : Step) (q : Progress)
+    → stepped text begin p₀ p₁ n₀ n₁ step x → step ≡ Next q → Judged (q .words) (q .numbers) x
 unfolding stepped
 judged text p₀ p₁ n₀ n₁ x step q a e = of x (subst (λ (s : Step). stepped text begin p₀ p₁ n₀ n₁ s x) e a)
   where
     of : (x : Reading) → stepped text begin p₀ p₁ n₀ n₁ (Next q) x → Judged (q .words) (q .numbers) x
     of (bad n) m = absurd m
     of (got ws bs rest n) m =
-        record { plan = ws; bits = bs; rest = rest; lines = n; reading = refl; planLength = m .words ∙ zero-add (length ws); numbersLength = m .numbers ∙ zero-add (length bs) }
+        record {
+          plan = ws;
+          bits = bs;
+          rest = rest;
+          lines = n;
+          reading = refl;
+          planLength = m .words ∙ zero-add (length ws);
+          numbersLength = m .numbers ∙ zero-add (length bs);
+        }
 
 empty : {A : Type 0} (xs : List A) → length xs ≡ 0 → xs ≡ []
 empty [] e = refl
@@ -97,11 +106,17 @@ at-front : {A : Type 0} (xs us : List A) → length us ≤ length xs → sets xs
 at-front xs us h = sets-eq us xs 0 (omega arith) ∙ rw zero-add
 
 module _ (text P : List ℕ) (N : List Float) (words count : ℕ) (j : Judged words count (readFigure text)) where
-  pub refused-12 : leb words (length P) && leb count (length N) ≡ false → TextRead text P P N N (answer.Refused 12 0)
+  refused-12 : leb words (length P) && leb count (length N) ≡ false → TextRead text P P N N (answer.Refused 12 0)
   unfolding textValues textVerdict whenAccepted
   refused-12 e =
       let v : textVerdict (readFigure text) (length P) (length N) ≡ refused 12 0 0 = rw (j .reading, ← j .planLength, ← j .numbersLength, e) in
       record { answer = rw v; plan = rw v; numbers = rw v }
+
+  pub plan-short : length P < words → TextRead text P P N N (answer.Refused 12 0)
+  plan-short h = refused-12 (rw (lt-leb words (length P) h))
+
+  pub numbers-short : words ≤ length P → length N < count → TextRead text P P N N (answer.Refused 12 0)
+  numbers-short h k = refused-12 (rw (le-leb words (length P) h, lt-leb count (length N) k))
 
   pub accepts : (P′ : List ℕ) (N′ : List Float) (step : Step) → words ≤ length P → count ≤ length N
       → stepped text begin P P′ N N′ step (readFigure text) → TextRead text P P′ N N′ (answer.Accepted words count)
@@ -112,7 +127,7 @@ module _ (text P : List ℕ) (N : List Float) (words count : ℕ) (j : Judged wo
       of (Malformed line) m = absurd m
       of (Next q) m =
           let v : textVerdict (readFigure text) (length P) (length N) ≡ accepted words count =
-            rw (j .reading, ← j .planLength, ← j .numbersLength, le-leb words (length P) h, le-leb count (length N) k) in
+          rw (j .reading, ← j .planLength, ← j .numbersLength, le-leb words (length P) h, le-leb count (length N) k) in
           let l = length-map (j .bits) (ofBits binary32) in
           record {
             answer = rw v;

@@ -1,14 +1,13 @@
 // The lines of a figure in their order, and the call.
-use lines::LineEnd;
-use lines::line_at;
 use crate::put::Progress;
 use crate::put::Step;
 use crate::put::put_line;
 use crate::put::put_word;
 use crate::put::read_lines;
+use lines::LineEnd;
+use lines::line_at;
 use model::LineKind;
 use model::TextAnswer;
-ghost use mathlib.Core.Path.{_≡_};
 ghost use Prim.Native.Nat.{_<_, _≤_};
 ghost use lib.ListN.{drop};
 ghost use Rattle.model.specs.Promises.{TextRead};

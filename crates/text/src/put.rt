@@ -1,13 +1,13 @@
 // One line, or many of a kind, into the slices. A place past a slice's end is not written, so that slices of no length serve to judge a text.
+use float::f32_from_bits;
 use lines::LineEnd;
 use lines::bits_count;
 use lines::decimal_count;
 use lines::line_at;
-use float::f32_from_bits;
 use model::LineKind;
 ghost use mathlib.Core.Path.{_≡_};
 ghost use mathlib.Core.List.{[], _∷_};
-ghost use Prim.Native.Nat.{ℕ, _+_, _*_, _<_, _≤_, _^_};
+ghost use Prim.Native.Nat.{ℕ, _+_, _<_, _≤_, _^_};
 ghost use lib.ListN.{length, getD, take, drop};
 ghost use lib.Seq.{sets};
 ghost use Rattle.model.specs.Text.{decimalCount, bitsCount, readLine, times, floatsOf};

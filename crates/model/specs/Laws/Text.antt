@@ -202,11 +202,11 @@ line-of-fields : (kind : LineKind) (s vs rest : List ℕ) → FieldsLaw kind (fi
 line-of-fields kind s vs rest law =
     let z : fieldCount kind - fieldCount kind ≡ 0 = omega arith in
     let most : (k : ℕ) → k < fieldCount kind → getD vs k 0 ≤ mostOf (formOf kind k) = λ k h.
-      let e : fieldCount kind - fieldCount kind + k ≡ k = omega arith in subst (λ (i : ℕ). getD vs k 0 ≤ mostOf (formOf kind i)) e (law .most k h) in
+    let e : fieldCount kind - fieldCount kind + k ≡ k = omega arith in subst (λ (i : ℕ). getD vs k 0 ≤ mostOf (formOf kind i)) e (law .most k h) in
     let limit : (k : ℕ) → k < decimalCount kind → getD vs k 0 ≤ getD (limits kind) k 0 = λ k h.
-      subst (λ (f : FieldForm). getD vs k 0 ≤ mostOf f) (decimal-form kind k h) (most k (omega arith)) in
+    subst (λ (f : FieldForm). getD vs k 0 ≤ mostOf f) (decimal-form kind k h) (most k (omega arith)) in
     let pattern : (k : ℕ) → k < bitsCount kind → getD vs (decimalCount kind + k) 0 ≤ 4294967295 = λ k h.
-      subst (λ (f : FieldForm). getD vs (decimalCount kind + k) 0 ≤ mostOf f) (bits-form kind (decimalCount kind + k) (omega arith)) (most (decimalCount kind + k) (omega arith)) in
+    subst (λ (f : FieldForm). getD vs (decimalCount kind + k) 0 ≤ mostOf f) (bits-form kind (decimalCount kind + k) (omega arith)) (most (decimalCount kind + k) (omega arith)) in
     record {
       count = law .count;
       limit = limit;

@@ -75,7 +75,7 @@ module _ (plan bits : List ℕ) where
   -- T, and the transitions
   undone-transitions : (s t : ℕ) (u : List ℕ) → t ≤ maxTransitions
       → Undone plan bits (prefixed (t ∷ []) [] 0 (times t (readLine Go) u)) u (transitions plan bits s)
-        (transitionCountAt plan s) (stateAt plan (suc s)) (numbersAt plan s) (numbersAt plan (suc s)) (t ≡ transitionCount plan s)
+      (transitionCountAt plan s) (stateAt plan (suc s)) (numbersAt plan s) (numbersAt plan (suc s)) (t ≡ transitionCount plan s)
   unfolding transitionCount
   undone-transitions s t u few =
       let text = transitions plan bits s in

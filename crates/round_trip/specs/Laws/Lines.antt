@@ -156,7 +156,7 @@ line-read kind ws bs r h =
     let tail = decimalFields ws ++ (bitsFields bs ++ lineFeed ∷ r) in
     let count : length ws ≡ decimalCount kind = limited-length (limits kind) ws (h .words) in
     let values : lastFields kind (fieldCount kind) tail ≡ line (ws ++ bs) r =
-      all-fields kind tail ∙ fields-read (limits kind) ws (bitsCount kind) bs r (limits-most kind) (h .words) (h .patterns) in
+    all-fields kind tail ∙ fields-read (limits kind) ws (bitsCount kind) bs r (limits-most kind) (h .words) (h .patterns) in
     simp (
       append-assoc,
       begins-same (name kind) tail,
@@ -288,8 +288,7 @@ line-written kind s ws bs r n e = read (lineIn kind s) refl e
         let f = fields-written (limits kind) (bitsCount kind) tail vs r (limits-most kind) (sym (all-fields kind tail) ∙ e) in
         let count : length (f .words) ≡ decimalCount kind = limited-length (limits kind) (f .words) (f .limited) in
         let words : f .words ≡ ws = sym (take-at (f .words) (f .bits) (decimalCount kind) count) ∙ ap (take (decimalCount kind)) (sym (f .together)) ∙ w in
-        let bits : f .bits ≡ bs = sym (drop-at (f .words) (f .bits) (decimalCount kind) count) ∙ ap (drop (decimalCount kind)) (sym (f .together)) ∙ v in
-        (
+        let bits : f .bits ≡ bs = sym (drop-at (f .words) (f .bits) (decimalCount kind) count) ∙ ap (drop (decimalCount kind)) (sym (f .together)) ∙ v in (
           begins-with (name kind) s (name-visible kind) b ∙ ap (λ (u : List ℕ). name kind ++ u) (f .text) ∙ rw (words, bits) (simp append-assoc),
           record {
             words = subst (Limited (limits kind)) words (f .limited);

@@ -98,11 +98,11 @@ module _ (plan : List ℕ) where
       unfolding checkState afterNodes transitionCountAt
       state-of =
           and-then _ _ (and-then _ _ (and-then _ _ (and-then _ _
-            (word-test 2 (stateAt plan s) _ (omega (arith, state-places)) (omega arith) (omega arith))
-            (all (nodeCount plan s) (checkNode plan s) node-of))
-            (all (nodeCount plan s - 1) _ (λ k h. test _ 4 (stateAt plan s) (omega arith) (omega arith))))
-            (word-test 2 (transitionCountAt plan s) _ (omega (arith, state-places)) (omega arith) (omega arith)))
-            (all (transitionCount plan s) (checkTransition plan s) transition-of)
+          (word-test 2 (stateAt plan s) _ (omega (arith, state-places)) (omega arith) (omega arith))
+          (all (nodeCount plan s) (checkNode plan s) node-of))
+          (all (nodeCount plan s - 1) _ (λ k h. test _ 4 (stateAt plan s) (omega arith) (omega arith))))
+          (word-test 2 (transitionCountAt plan s) _ (omega (arith, state-places)) (omega arith) (omega arith)))
+          (all (transitionCount plan s) (checkTransition plan s) transition-of)
 
     pub check-of : (n : ℕ) → n ≡ numbersLength plan → ofContent (check plan n)
     unfolding check require ofContent
@@ -110,8 +110,8 @@ module _ (plan : List ℕ) where
         let words : require (leb (length plan) (planEnd plan)) 6 (planEnd plan) ≡ accepted = rw (le-leb (length plan) (planEnd plan) (omega (arith, whole))) in
         let numbers : require (eqb n (numbersLength plan)) 7 0 ≡ accepted = rw (eq-eqb n (numbersLength plan) e) in
         and-then _ _ (and-then _ _ (and-then _ _ (and-then _ _ (and-then _ _ header-of
-          (all (jointCount plan) (checkParent plan) parent-of))
-          (all (clipCount plan) (checkSampleCount plan) sample-count-of))
-          (all (stateCount plan) (checkState plan) state-of))
-          (rw words tt))
-          (rw numbers tt)
+        (all (jointCount plan) (checkParent plan) parent-of))
+        (all (clipCount plan) (checkSampleCount plan) sample-count-of))
+        (all (stateCount plan) (checkState plan) state-of))
+        (rw words tt))
+        (rw numbers tt)

@@ -38,13 +38,13 @@ module _ (plan : List ℕ) where
 
   pub node-row : (s : ℕ)
       → Row Node (nodeCount plan s) (kindAt plan s) (λ i. numbersAt s)
-        (stateAt plan s + 1) (transitionCountAt plan s) (numbersAt s) (numbersAt s)
+      (stateAt plan s + 1) (transitionCountAt plan s) (numbersAt s) (numbersAt s)
   unfolding limits bitsCount kindAt transitionCountAt afterNodes nodeCount
   node-row s = omega arith
 
   pub go-row : (s : ℕ)
       → Row Go (transitionCount plan s) (conditionParameterAt plan s) (goNumbersAt s)
-        (transitionCountAt plan s + 1) (stateAt plan (suc s)) (numbersAt s) (numbersAt (suc s))
+      (transitionCountAt plan s + 1) (stateAt plan (suc s)) (numbersAt s) (numbersAt (suc s))
   unfolding limits bitsCount conditionParameterAt transitionCountAt afterTransitions stateAt transitionCount numberAt transitionsBefore total
   go-row s = omega arith
 

@@ -12,7 +12,7 @@ returns c =
     let f = c .before .before .before .before .before .before .before in
     let a = f .before .before .before .before .before .before .args in
     rw (lent-nothing (f .read-figure .last .1 .0) (a .plan .now) (f .read-figure .kept .1 .0), lent-nothing (f .read-figure .last .1 .1 .0) (a .numbers .now) (f .read-figure .kept .1 .1 .0))
-      (refused-11 _ _ _ _ _ _ _ _ _ (f .read-figure .ensures) (c .before .judged .given .1))
+    (refused-11 _ _ _ _ _ _ _ _ _ (f .read-figure .ensures) (c .before .judged .given .1))
 
 returns-2 : tie.Need-returns-2
 returns-2 c =
@@ -20,7 +20,7 @@ returns-2 c =
     let f = w .before .before .before .before .before .before .before .before .before .before in
     let a = f .before .before .before .before .before .before .args in
     rw (lent-nothing (f .read-figure .last .1 .0) (a .plan .now) (f .read-figure .kept .1 .0), lent-nothing (f .read-figure .last .1 .1 .0) (a .numbers .now) (f .read-figure .kept .1 .1 .0))
-      at (w .write-figure .ensures)
+    at (w .write-figure .ensures)
 
 pub read-spec : {M : Type 1} → statement M
 read-spec =

@@ -17,8 +17,8 @@ use Rattle.text.proofs.figure.read_clips.Tie as tie
 
 abbrev Inv-loop : tie.InvT-loop
 Inv-loop text count plan₀ numbers₀ progress₀ samples₀ c₀ plan numbers progress samples c =
-    stepped text progress₀ plan₀ plan numbers₀ numbers (Next progress) (times c (readLine Clip) (drop (progress₀ .at) text)) × (c ≤ count) × (length plan ≡ length plan₀) × (length numbers ≡ length numbers₀)
-    × sampled c samples (times c (readLine Clip) (drop (progress₀ .at) text)) × (samples ≤ c * 4096)
+    stepped text progress₀ plan₀ plan numbers₀ numbers (Next progress) (times c (readLine Clip) (drop (progress₀ .at) text))
+    × (c ≤ count) × (length plan ≡ length plan₀) × (length numbers ≡ length numbers₀) × sampled c samples (times c (readLine Clip) (drop (progress₀ .at) text)) × (samples ≤ c * 4096)
 
 abbrev μ-loop : tie.MeasureT-loop
 μ-loop text count plan₀ numbers₀ progress₀ samples₀ c₀ plan numbers progress samples c = count - c
@@ -59,8 +59,9 @@ returns : tie.Need-returns Inv-loop μ-loop
 returns c =
     let l = c .before .before .before in
     let t = l .before .before in
-    let line = line-stops _ _ (l .line-at .last .1 .1 .1 .0) (t .before .loop .progress) _ (l .line-at .ensures) _ _ _ _ (c .before .before .match .keys2) in
-    let all = times-stops _ _ _ _ _ _ _ _ _ (t .before .loop .inv .0) _ _ _ line _ (t .loop-test .taken) refl in
+    let p = t .before .loop in
+    let line = line-stops _ _ (l .line-at .last .1 .1 .1 .0) (p .progress) _ (l .line-at .ensures) _ _ _ _ (c .before .before .match .keys2) in
+    let all = times-stops _ _ _ _ _ _ _ _ _ (p .inv .0) _ _ _ line _ (t .loop-test .taken) refl in
     (all, sampled-bad _ _ _ _ _ _ _ _ _ _ all)
 
 put-line-requires : tie.Need-put-line-requires Inv-loop μ-loop
@@ -83,9 +84,14 @@ loop-again c =
     let p = c .before .before .before .before in
     let l = known (p .before .before .before .before) in
     let inv = p .before .before .before .before .before .before .before .before .before .before .loop .inv in
-    let few = few-samples l in
-    (times-next _ _ _ _ _ _ _ _ _ (inv .0) _ _ _ (line-steps l _ _ _ _ _ (p .put-line .ensures)) _ refl, omega arith, search needs, search needs,
-    sampled-next l _ _ _ _ _ _ _ (inv .0) (inv .4), omega arith)
+    let few = few-samples l in (
+      times-next _ _ _ _ _ _ _ _ _ (inv .0) _ _ _ (line-steps l _ _ _ _ _ (p .put-line .ensures)) _ refl,
+      omega arith,
+      search needs,
+      search needs,
+      sampled-next l _ _ _ _ _ _ _ (inv .0) (inv .4),
+      omega arith,
+    )
 
 same-length-3 : tie.Need-same-length-3 Inv-loop μ-loop
 same-length-3 c = c .before .loop .inv .2

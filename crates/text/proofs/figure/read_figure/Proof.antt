@@ -10,7 +10,8 @@ use Rattle.text.proofs.figure.read_figure.Statement.{statement}
 use Rattle.text.proofs.figure.read_figure.Tie as tie
 
 -- past the first `else` there is a header
-known : (c : tie.After-known-told) → let l = c .before .before .before in LineAt Figure (l .before .before .before .before .before .args .text .now) (l .line-at .last .1 .1 .1 .0) begin (c .before .found .given .0 .0)
+known : (c : tie.After-known-told) → let l = c .before .before .before in
+    LineAt Figure (l .before .before .before .before .before .args .text .now) (l .line-at .last .1 .1 .1 .0) begin (c .before .found .given .0 .0)
 known c =
     let l = c .before .before .before in
     line-at _ _ (l .line-at .last .1 .1 .1 .0) begin _ (l .line-at .ensures) _ (begin-here _) (c .before .found .given .1)
@@ -23,7 +24,8 @@ returns c =
 put-line-requires : tie.Need-put-line-requires
 put-line-requires c κs = known (c .before .before .before)
 
-here : (c : tie.After-slice-known4) → InText (c .before .before .before .before .before .before .before .before .before .before .before .before .before .before .before .before .args .text .now) (c .before .before .before .before .put-line .result)
+-- behind it
+here : (c : tie.After-slice-known4) → let h = c .before .before .before .before in InText (h .before .before .before .before .before .before .before .before .before .before .before .before .args .text .now) (h .put-line .result)
 here c = let h = c .before .before .before .before in header-here (known (h .before .before .before .before)) _ _ _ _ _ (h .put-line .ensures)
 
 read-lines-requires : tie.Need-read-lines-requires
@@ -33,7 +35,8 @@ returns-2 : tie.Need-returns-2
 returns-2 c =
     let j = c .before .before .before .before .before .before in
     let h = j .before .before .before .before .before .before .before in
-    header-then (known (h .before .before .before .before)) _ _ _ _ _ (h .put-line .ensures) _ _ _ (stops _ _ _ _ _ _ _ _ (j .read-lines .ensures) _ (c .before .match2 .keys2))
+    header-then (known (h .before .before .before .before)) _ _ _ _ _ (h .put-line .ensures) _ _ _
+    (stops _ _ _ _ _ _ _ _ (j .read-lines .ensures) _ (c .before .match2 .keys2))
 
 read-motion-requires : tie.Need-read-motion-requires
 read-motion-requires c κs =
@@ -48,7 +51,8 @@ returns-3 c =
     let k = o .before .before .before in
     let j = k .before .before .before .before .before .before .before in
     let h = j .before .before .before .before .before .before .before in
-    header-then (known (h .before .before .before .before)) _ _ _ _ _ (h .put-line .ensures) _ _ _ (goes _ _ _ _ _ _ _ _ _ _ _ _ _ (k .before .joints-step .given .1) (j .read-lines .ensures) (o .read-motion .ensures))
+    header-then (known (h .before .before .before .before)) _ _ _ _ _ (h .put-line .ensures) _ _ _
+    (goes _ _ _ _ _ _ _ _ _ _ _ _ _ (k .before .joints-step .given .1) (j .read-lines .ensures) (o .read-motion .ensures))
 
 pub read-figure-spec : {M : Type 1} → statement M
 read-figure-spec =

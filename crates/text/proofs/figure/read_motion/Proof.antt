@@ -25,7 +25,7 @@ returns-2 c =
     let k = s .before .before .before in
     let p = k .before .before .before .before .before .before .before in
     clips-then _ _ _ _ _ _ _ _ _ _ (p .read-clips .ensures .0) _ _ _ _ _ (k .before .clips-step .given .1) (p .read-clips .ensures .1)
-      (stops _ _ _ _ _ _ _ _ (s .read-states .ensures) _ (c .before .match2 .keys2))
+    (stops _ _ _ _ _ _ _ _ (s .read-states .ensures) _ (c .before .match2 .keys2))
 
 mul-poses : tie.Need-mul-poses
 mul-poses c =
@@ -49,7 +49,7 @@ returns-3 c =
     let h = s .before .before .before in
     let p = h .before .before .before .before .before .before .before in
     clips-then _ _ _ _ _ _ _ _ _ _ (p .read-clips .ensures .0) _ _ _ _ _ (h .before .clips-step .given .1) (p .read-clips .ensures .1)
-      (goes _ _ _ _ _ _ _ _ _ _ _ _ _ (k .before .states-step .given .1) (s .read-states .ensures) (o .read-poses .ensures))
+    (goes _ _ _ _ _ _ _ _ _ _ _ _ _ (k .before .states-step .given .1) (s .read-states .ensures) (o .read-poses .ensures))
 
 pub read-motion-spec : {M : Type 1} → statement M
 read-motion-spec =

@@ -35,16 +35,16 @@ returns-2 c =
     let k = n .before .before .before .before .before .before .before in
     nodes-stop (known (k .before .before)) _ _ _ _ _ (n .read-lines .ensures) _ (k .put-word .ensures) (c .before .match2 .keys2)
 
+-- past the second `else`, back to the first; there is room for T in the count of words
+abbrev line : tie.After-known-told2 → tie.After-known-told
+line c = c .before .before .before .before .before .before .before .before .before .before .before .before .before .before .before .before
+
+room : (c : tie.After-known-told2) → InText (line c .before .before .before .before .before .before .before .before .args .text .now) (behind (known (line c)) (c .before .nodes-read .given .0 .0))
+room c = behind-here (known (line c)) _ _ _ _ _ (c .before .before .before .before .before .before .before .read-lines .ensures) _ (c .before .nodes-read .given .1)
+
 put-word-requires-2 : tie.Need-put-word-requires-2
 unfolding limits
-put-word-requires-2 c κs = word-small (known (c .before .before .before .before .before .before .before .before .before .before .before .before .before .before .before .before .before)) 1 (omega arith)
-
--- past the second `else` there is room in the plan's count for T
-room : (c : tie.After-known-told2) → InText (c .before .before .before .before .before .before .before .before .before .before .before .before .before .before .before .before .before .before .before .before .before .before .before .before .args .text .now) (behind (known (c .before .before .before .before .before .before .before .before .before .before .before .before .before .before .before .before)) (c .before .nodes-read .given .0 .0))
-room c =
-    let n = c .before .before .before .before .before .before .before in
-    let k = n .before .before .before .before .before .before .before in
-    behind-here (known (k .before .before)) _ _ _ _ _ (n .read-lines .ensures) _ (c .before .nodes-read .given .1)
+put-word-requires-2 c κs = word-small (known (line (c .before))) 1 (omega arith)
 
 add-t25-2 : tie.Need-add-t25-2
 add-t25-2 c = omega (arith, room (c .before .before .before .before .before))
@@ -58,8 +58,8 @@ returns-3 c =
     let t = g .before .before .before .before .before .before in
     let q = t .before .before in
     let n = q .before .before .before .before .before .before .before in
-    let k = n .before .before .before .before .before .before .before in
-    state-steps (known (k .before .before)) _ _ _ _ _ (n .read-lines .ensures) _ (k .put-word .ensures) _ _ _ _ _ (q .before .nodes-read .given .1) (t .put-word2 .ensures) (g .read-lines2 .ensures)
+    state-steps (known (line q)) _ _ _ _ _ (n .read-lines .ensures) _ (n .before .before .before .before .before .before .before .put-word .ensures) _ _ _ _ _ (q .before .nodes-read .given .1)
+    (t .put-word2 .ensures) (g .read-lines2 .ensures)
 
 pub read-state-spec : {M : Type 1} → statement M
 read-state-spec =

@@ -13,7 +13,8 @@ use Rattle.text.proofs.figure.read_states.Tie as tie
 
 abbrev Inv-loop : tie.InvT-loop
 Inv-loop text count plan₀ numbers₀ progress₀ s₀ plan numbers progress s =
-    stepped text progress₀ plan₀ plan numbers₀ numbers (Next progress) (times s readState (drop (progress₀ .at) text)) × (s ≤ count) × (length plan ≡ length plan₀) × (length numbers ≡ length numbers₀)
+    stepped text progress₀ plan₀ plan numbers₀ numbers (Next progress) (times s readState (drop (progress₀ .at) text))
+    × (s ≤ count) × (length plan ≡ length plan₀) × (length numbers ≡ length numbers₀)
 
 abbrev μ-loop : tie.MeasureT-loop
 μ-loop text count plan₀ numbers₀ progress₀ s₀ plan numbers progress s = count - s

@@ -1,15 +1,14 @@
 -- `text::figure::write_figure` meets its contract. Assumes nothing.
 use borrow.Author.Needs.{needs}
-use borrow.Author.Tests.{le-leb, lt-leb}
-use Rattle.text.proofs.ReadLaws.{refused-12, accepts}
+use Rattle.text.proofs.ReadLaws.{plan-short, numbers-short, accepts}
 use Rattle.text.proofs.figure.write_figure.Statement.{statement}
 use Rattle.text.proofs.figure.write_figure.Tie as tie
 
 returns : tie.Need-returns
-returns c = refused-12 _ _ _ _ _ (c .before .before .before .before .pre) (rw (lt-leb _ _ (c .if1 .taken)))
+returns c = plan-short _ _ _ _ _ (c .before .before .before .before .pre) (c .if1 .taken)
 
 returns-2 : tie.Need-returns-2
-returns-2 c = refused-12 _ _ _ _ _ (c .before .before .before .before .before .pre) (rw (le-leb _ _ (c .before .if1 .left), lt-leb _ _ (c .if2 .taken)))
+returns-2 c = numbers-short _ _ _ _ _ (c .before .before .before .before .before .pre) (c .before .if1 .left) (c .if2 .taken)
 
 returns-3 : tie.Need-returns-3
 returns-3 c =

@@ -1,4 +1,4 @@
-use borrow.Author.Needs.{needs}
+-- `text::put::put_words` meets its contract. Invariant: the first k words stand in the plan. Assumes nothing.
 use Prim.Native.Nat.{_-_, _≤_}
 use mathlib.Core.Path.{_≡_, refl, ap, _∙_}
 use lib.ListN.{length, take}
@@ -7,9 +7,6 @@ use native.Mathlib.Omega.{arith}
 use Rattle.text.proofs.Laws.{word-next}
 use Rattle.text.proofs.put.put_words.Statement.{statement}
 use Rattle.text.proofs.put.put_words.Tie as tie
-use Rattle.text.proofs.put.put_words.Reads as reads
-use Rattle.text.proofs.put.put_words.Lts as lts
-use Rattle.text.proofs.put.put_word.Reads as put-word-reads
 
 abbrev Inv-loop : tie.InvT-loop
 Inv-loop plan₀ at values count k₀ plan k = (plan ≡ sets plan₀ at (take k values)) × (k ≤ count)
@@ -17,46 +14,36 @@ Inv-loop plan₀ at values count k₀ plan k = (plan ≡ sets plan₀ at (take k
 abbrev μ-loop : tie.MeasureT-loop
 μ-loop plan₀ at values count k₀ plan k = count - k
 
--- src/put.rt:52:5
 loop-holds : tie.Need-loop-holds Inv-loop μ-loop
 loop-holds c = (refl, omega arith)
 
--- src/put.rt:53:24
 add-put-word : tie.Need-add-put-word Inv-loop μ-loop
 add-put-word c = omega arith
 
--- src/put.rt:53:32
 mul-put-word : tie.Need-mul-put-word Inv-loop μ-loop
 mul-put-word c = omega arith
 
--- src/put.rt:53:32
 element-copy-out-put-word : tie.Need-element-copy-out-put-word Inv-loop μ-loop
 element-copy-out-put-word c = omega arith
 
--- src/put.rt:53:9
 put-word-requires : tie.Need-put-word-requires Inv-loop μ-loop
 put-word-requires c κs = c .before .before .before .before .before .pre .3 _ (c .before .before .loop-test .taken)
 
--- src/put.rt:54:9
 add-k : tie.Need-add-k Inv-loop μ-loop
 add-k c = omega arith
 
--- src/put.rt:52:5
 loop-less : tie.Need-loop-less Inv-loop μ-loop
 loop-less c = omega arith
 
--- src/put.rt:52:5
 loop-again : tie.Need-loop-again Inv-loop μ-loop
 loop-again c =
     let p = c .before .before in
     let l = p .before .before .before .before in
     (word-next _ _ _ _ _ _ (omega arith) (l .loop .inv .0) (p .put-word .ensures), omega arith)
 
--- src/put.rt:47:1
 same-length : tie.Need-same-length Inv-loop μ-loop
 same-length c = ap length (c .before .loop .inv .0) ∙ simp length-sets
 
--- src/put.rt:47:1
 returns : tie.Need-returns Inv-loop μ-loop
 returns c = let e : c .before .loop .k ≡ c .before .before .before .args .count = omega arith in rw e at (c .before .loop .inv .0)
 

@@ -1,12 +1,9 @@
+-- `text::put::read_line` meets its contract. Assumes nothing.
 use borrow.Author.Needs.{needs}
 use Rattle.text.specs.Steps.{LineAt}
 use Rattle.text.proofs.LineLaws.{line-at, line-stops, line-steps}
 use Rattle.text.proofs.put.read_line.Statement.{statement}
 use Rattle.text.proofs.put.read_line.Tie as tie
-use Rattle.text.proofs.put.read_line.Reads as reads
-use Rattle.text.proofs.put.read_line.Lts as lts
-use Rattle.lines.proofs.line_at.Reads as line-at-reads
-use Rattle.text.proofs.put.put_line.Reads as put-line-reads
 
 -- past the `else` there is a line
 known : (c : tie.After-known-told) → let l = c .before .before .before in let a = l .before .before .before .before .before .args in
@@ -16,41 +13,32 @@ known c =
     let s = l .before .before .before .before .before in
     line-at _ _ (l .line-at .last .1 .1 .1 .0) (s .args .from) _ (l .line-at .ensures) _ (s .pre) (c .before .found .given .1)
 
--- src/put.rt:105:9
 line-at-requires : tie.Need-line-at-requires
 line-at-requires c κs = search needs
 
--- src/put.rt:106:21
 enum-known-found : tie.Need-enum-known-found
 enum-known-found c = search needs
 
--- src/put.rt:108:19
 enum-told : tie.Need-enum-told
 enum-told c = search needs
 
--- src/put.rt:108:19
 add-t10 : tie.Need-add-t10
 add-t10 c = search needs
 
--- src/put.rt:107:9
 returns : tie.Need-returns
 returns c =
     let l = c .before .before .before in
     line-stops _ _ (l .line-at .last .1 .1 .1 .0) _ _ (l .line-at .ensures) _ _ _ _ (c .before .before .match .keys2)
 
--- src/put.rt:111:16
 put-line-requires : tie.Need-put-line-requires
 put-line-requires c κs = known (c .before .before .before)
 
--- src/put.rt:94:1
 same-length : tie.Need-same-length
 same-length c = search needs
 
--- src/put.rt:94:1
 same-length-2 : tie.Need-same-length-2
 same-length-2 c = search needs
 
--- src/put.rt:94:1
 returns-2 : tie.Need-returns-2
 returns-2 c =
     let p = c .before .before .before .before in

@@ -13,7 +13,8 @@ use Rattle.text.proofs.put.read_lines.Tie as tie
 
 abbrev Inv-loop : tie.InvT-loop
 Inv-loop text kind count plan₀ numbers₀ progress₀ i₀ plan numbers progress i =
-    stepped text progress₀ plan₀ plan numbers₀ numbers (Next progress) (times i (readLine kind) (drop (progress₀ .at) text)) × (i ≤ count) × (length plan ≡ length plan₀) × (length numbers ≡ length numbers₀)
+    stepped text progress₀ plan₀ plan numbers₀ numbers (Next progress) (times i (readLine kind) (drop (progress₀ .at) text))
+    × (i ≤ count) × (length plan ≡ length plan₀) × (length numbers ≡ length numbers₀)
 
 abbrev μ-loop : tie.MeasureT-loop
 μ-loop text kind count plan₀ numbers₀ progress₀ i₀ plan numbers progress i = count - i
