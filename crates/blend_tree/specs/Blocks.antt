@@ -30,7 +30,7 @@ pub record InBlock (plan : List ℕ) (first count : ℕ) : Type 0 where
   pub small : count ≤ blockSize
   pub inside : first + count ≤ jointCount plan
 
--- slot i holds the number of the clip node that is node i of state s, wherever node i is a clip
+-- slot i holds how many clip nodes of the plan come before node i of state s: its own number, if it is one
 pub record Slots (plan : List ℕ) (s : ℕ) (slots : List ℕ) : Type 0 where
   pub slot : (i : ℕ) → i < nodeCount plan s → getD slots i 0 ≡ clipNode plan s i
 

@@ -131,7 +131,7 @@ pub fn update(mut player: Player, delta: f64) -> Player
     player
 }
 
-// The caller's player itself moves its clock.
+// `update` on the player that the caller keeps.
 pub fn update_in_place(player: &mut Player, delta: f64)
     ensures { λ _. ⌜ Updated (now (player .entry)) delta (now (player .exit)) ⌝ }
 {

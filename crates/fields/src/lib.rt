@@ -31,7 +31,7 @@ fn digit(b: u8) -> usize
     16
 }
 
-// The first place from `at` on that has no digit of the base.
+// Where the run of digits that begins at `at` ends.
 fn run_end(text: &[u8], at: usize, base: usize) -> usize
     ensures { λ r. ⌜ r ≡ at + run base (drop at (now (text .entry))) ⌝ }
 {
@@ -45,7 +45,7 @@ fn run_end(text: &[u8], at: usize, base: usize) -> usize
     i
 }
 
-// The number of the digits from `at` to `end`, or one above `most` if it is above `most`, so that a long run cannot overflow.
+// What the digits between `at` and `end` write. It stops as soon as that is above `most`, so that a long run cannot overflow.
 fn numeral(text: &[u8], at: usize, end: usize, base: usize, most: usize) -> usize
     requires { ⌜ (at ≤ end) × (end ≤ length (now text)) × (base ≤ 16) × (1 ≤ base) × (most < 2 ^ 32) ⌝ }
     ensures { λ r. ⌜ (r ≤ most → r ≡ numeral base (end - at) (drop at (now (text .entry)))) × (most < r → most < numeral base (end - at) (drop at (now (text .entry)))) ⌝ }

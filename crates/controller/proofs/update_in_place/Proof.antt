@@ -1,5 +1,5 @@
--- A walk of `update_in_place` by hand: the borrow is opened, the player is read whole, `update`, of which only its contract is known, is called on
--- the copy, its result is stored whole, and the borrow is closed at that result. The player's fields play no part. Assumes nothing.
+-- A walk by hand. Behind the reference the player is copied as a whole, `update` gets the copy (its contract is all that is used of it), and what it
+-- returns takes the player's place. No field of the player is named. Assumes nothing.
 use mathlib.Core.Path.{_≡_, refl}
 use Prim.Native.Nat.{ℕ}
 use mathlib.Core.Bool.{true}

@@ -1,5 +1,5 @@
--- A walk of `read` by hand: the struct is taken apart, and `field_at`, of which only its contract is known, is called with its slice, its place
--- and the form. What a struct of a `&` owns can be had twice: one copy is kept for the exit, the other gives what the callee asks. Assumes nothing.
+-- A walk by hand. `field_at`, of which nothing but the contract is used, is called with the struct's slice and place and the form.
+-- A struct that holds a `&` may be had twice: one copy stays whole for the exit, the other is opened for the call. Assumes nothing.
 use mathlib.Core.Path.{_≡_, refl}
 use Prim.Native.Nat.{_<_, _^_}
 use mathlib.Core.List.{[], _∷_}
@@ -65,7 +65,7 @@ use Rattle.fields.proofs.read as f
 use Rattle.fields.proofs.read.Statement as stated
 use Rattle.fields.proofs.read.Code as code
 
--- the struct's type, over the signature's lifetimes
+-- `Fields` at the lifetime of this signature
 abbrev B : Lfts 1 → RattleType
 B κs = T.the-row (namedLft 1 0 tt κs)
 
@@ -132,7 +132,7 @@ module _ {M : Type 1} (𝓤 : URA M) (H : Heap 𝓤) (A : Atoms 𝓤) (W : Given
         qed W ((‵ (flft κ q) ⊛ ‵ ftrue) ∷ ‵ (owns (ShrSlice (named 0) κ u8 ∷ usize ∷ E.the-row ∷ []) (d .text, (d .at, (form, tt))) passed) ∷ []) ∵
         join ! $ frame ! $ done !
 
-    -- what the struct owns gives what the callee asks, and is kept
+    -- the struct is had twice: its parts for the callee, and whole for the exit
     apart : d .at < 2 ^ 64 → ent 𝓤 Entry (sep 𝓤 (Asks to) (sem 𝓤 H A Own))
     apart fits =
         qed W ((‵ (flft κ q) ⊛ ‵ ftrue) ∷ ‵ (owns (B (κ, tt) ∷ E.the-row ∷ []) (d, (form, tt)) vs) ∷ []) ∵

@@ -62,7 +62,7 @@ use Rattle.fields.proofs.read_field as f
 use Rattle.fields.proofs.read_field.Statement as stated
 use Rattle.fields.proofs.read_field.Code as code
 
--- the struct's type, over the signature's lifetimes
+-- `Fields` at the lifetime of this signature
 abbrev B : Lfts 1 → RattleType
 B κs = T.the-row (namedLft 1 0 tt κs)
 
