@@ -1,7 +1,7 @@
 // Fields of a text. The work is done on a slice and a position; `Fields` holds the two together, in functions that only take it apart.
 use model::FieldForm;
 ghost use mathlib.Core.Path.{_≡_};
-ghost use Prim.Native.Nat.{ℕ, _+_, _-_, _<_, _≤_, _^_};
+ghost use Prim.Native.Nat.{_+_, _-_, _<_, _≤_, _^_};
 ghost use lib.ListN.{drop, length};
 ghost use Rattle.model.specs.Text.{digit, run, numeral, fieldIn};
 ghost use Rattle.model.specs.declared.FieldForm.the-variants as FieldForm;

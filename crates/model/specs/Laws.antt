@@ -16,3 +16,4 @@ pub mod Digits
 pub mod Text
 pub mod Reading
 pub mod Output
+pub mod Stores

@@ -5,7 +5,7 @@ use mathlib.Core.Bool.{Bool, true, false, cond}
 use mathlib.Core.List.{List, [], _∷_, _++_, map, append-nil, append-assoc, map-append}
 use native.Mathlib.Omega.{arith}
 use native.Mathlib.Numerals.{add-one, one-add}
-use native.Mathlib.Nat.{add-zero, zero-add, pow-suc, div-lt-iff-lt-mul}
+use native.Mathlib.Nat.{zero-add, pow-suc, div-lt-iff-lt-mul}
 use borrow.Author.Tests.{lt-ltb, le-ltb, ltb-false}
 use lib.Ieee.{Float, nan, binary32, toBits}
 use lib.Dec.{ltb}
@@ -14,15 +14,11 @@ use lib.Seq.{sets, sets-eq, length-sets, set-comm, take-suc, getD-drop}
 use Rattle.model.specs.declared.LineKind.the-variants.{Joint}
 use Rattle.model.specs.Text.{comma, lineFeed, name, overwritten}
 use Rattle.model.specs.Program.{glyph, digits, places, decimalText, bitsText, decimalFields, bitsFields, refusedLine, jointLine, joined}
+use Rattle.model.specs.Laws.Digits.{length-digits}
+use Rattle.model.specs.Laws.Stores.{sets-append}
 use Rattle.printing.specs.Written.{Written, floatFields}
 
 -- ---- texts one behind the other
-
-sets-append : (xs : List ℕ) (n : ℕ) (text more : List ℕ) → sets (sets xs n text) (n + length text) more ≡ sets xs n (text ++ more)
-sets-append xs n [] more = rw add-zero
-sets-append xs n (b ∷ text) more =
-    let e : n + suc (length text) ≡ suc n + length text = omega arith in
-    rw e (sets-append (set xs n b) (suc n) text more)
 
 pub nothing-written : (xs : List ℕ) (at : ℕ) → Written xs at [] xs at
 nothing-written xs at = record { stored = refl; ended = omega arith }
@@ -49,11 +45,6 @@ next-byte {ys = ys} {at = at} bytes i l p =
     rw (e, add-one i, take-suc bytes i 0 l) (more-written p (byte-written ys (at + i) (getD bytes i 0)))
 
 -- ---- digits
-
-pub length-digits : (base k n : ℕ) → length (digits base k n) ≡ k
-unfolding digits
-length-digits base zero n = refl
-length-digits base (suc k) n = omega (arith, length-append (digits base k (n / base)) (glyph (n % base) ∷ []), length-digits base k (n / base))
 
 -- a byte behind a text may be stored before the text or after it
 sets-set : (xs : List ℕ) (n : ℕ) (text : List ℕ) (i b : ℕ) → n + length text ≤ i → sets (set xs i b) n text ≡ set (sets xs n text) i b

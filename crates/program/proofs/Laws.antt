@@ -2,12 +2,11 @@
 use Prim.Native.Nat.{ℕ, zero, suc, _+_, _*_, _≤_, _<_}
 use native.Mathlib.Omega.{arith}
 use mathlib.Core.Path.{_≡_, refl, sym, ap, _∙_}
-use mathlib.Core.List.{List, [], _∷_, _++_, append-assoc}
-use lib.ListN.{length, getD, take, drop, length-append, length-map}
-use lib.Seq.{drop-append-add, take-append-seam}
+use mathlib.Core.List.{List}
+use lib.ListN.{length, take, drop, length-append, length-map}
+use lib.Seq.{take-append-seam}
 use lib.Ieee.{Float, binary32, ofBits}
 use borrow.Author.Tests.{lt-ltb, le-ltb, le-leb}
-use Rattle.model.specs.declared.Matrix4.{Matrix4}
 use Rattle.model.specs.declared.Outcome.{Outcome}
 use Rattle.model.specs.declared.Player.{Player}
 use Rattle.model.specs.declared.Answer.the-variants as answer
@@ -15,13 +14,12 @@ use Rattle.model.specs.declared.TextAnswer.{TextAnswer}
 use Rattle.model.specs.declared.TextAnswer.the-variants as text-answer
 use Rattle.model.specs.Numbers.{0f}
 use Rattle.model.specs.Answers.{accepted, values, _then_, require, unlessRefused}
-use Rattle.model.specs.Rotations.{identityMatrix, floats}
 use Rattle.model.specs.Plan.{jointCountAt, word, jointCount, stateCount, initialState, outputAt}
 use Rattle.model.specs.Controller.{blank, fresh, isTargetBelow, frameVerdict}
-use Rattle.model.specs.Skeleton.{jointMatrices, flat, written}
+use Rattle.model.specs.Skeleton.{written}
 use Rattle.model.specs.Text.{Reading, bad, got, readFigure, floatsOf, overwritten, readWords, readFloats, textValues, textVerdict, whenAccepted}
 use Rattle.model.specs.Text as text
-use Rattle.model.specs.Run.{startVerdict, startPlayer, ordinary, shown, frameMatrices}
+use Rattle.model.specs.Run.{startVerdict, startPlayer, ordinary, frameMatrices}
 use Rattle.model.specs.Program.{refusedLine, joined, jointLine, played, printedFrom, maxText, printed}
 use Rattle.model.specs.Promises.{Started, Framed, TextRead}
 use Rattle.model.specs.Laws.Output.{matrix-at, frame-length}

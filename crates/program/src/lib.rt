@@ -1,5 +1,4 @@
 // The program's work: from the bytes of a text to the bytes that are printed.
-
 use controller::frame;
 use controller::start;
 use layout::JOINT_COUNT_AT;

@@ -1,28 +1,25 @@
 -- How steps of a reading follow one another, over plain values. Assumes nothing.
 use Prim.Native.Nat.{ℕ, zero, suc, _+_, _-_, _≤_, _<_}
-use native.Mathlib.Nat.{add-zero, add-suc, suc-add}
+use native.Mathlib.Nat.{add-zero, add-suc}
 use native.Mathlib.Numerals.{add-one}
 use native.Mathlib.Omega.{arith}
 use mathlib.Core.Path.{_≡_, refl, subst, _∙_}
 use mathlib.Core.List.{List, [], _∷_, _++_, map-append}
 use lib.Ieee.{Float, binary32, ofBits}
-use lib.ListN.{length, getD, set, take, drop, length-append, length-map}
+use lib.ListN.{length, getD, take, drop, length-append, length-map}
 use lib.Seq.{sets, take-suc, length-take-le}
 use denote.Enum.Declared.{tagOf}
 use Rattle.model.specs.Text.{Reading, bad, got, prefixed, andThen, times, floatsOf, readWords}
 use Rattle.text.specs.declared.put.Progress.{Progress}
 use Rattle.text.specs.declared.put.Step.{Step}
 use Rattle.text.specs.declared.put.Step.the-variants.{Next, Malformed}
+use Rattle.model.specs.Laws.Stores.{sets-append}
 use Rattle.text.specs.Steps.{InText, Moved, stepped}
 use Rattle.text.proofs.put.Step.{the-type as step-type}
 
 -- ---- runs of stores
 
 module _ {ℓ} {A : Type ℓ} where
-  pub sets-append : (xs : List A) (n : ℕ) (us vs : List A) → sets (sets xs n us) (n + length us) vs ≡ sets xs n (us ++ vs)
-  sets-append xs n [] vs = rw add-zero
-  sets-append xs n (a ∷ us) vs = rw (add-suc, ← suc-add) (sets-append (set xs n a) (suc n) us vs)
-
   -- stores behind those that were made before
   pub sets-more : (xs ys zs : List A) (n m : ℕ) (us vs : List A) → ys ≡ sets xs n us → m ≡ n + length us → zs ≡ sets ys m vs → zs ≡ sets xs n (us ++ vs)
   sets-more xs ys zs n m us vs p e q = q ∙ rw (p, e) (sets-append xs n us vs)

@@ -4,6 +4,9 @@ use crate::put::Step;
 use crate::put::put_line;
 use crate::put::put_word;
 use crate::put::read_lines;
+use layout::CLIP_COUNT_AT;
+use layout::JOINT_COUNT_AT;
+use layout::STATE_COUNT_AT;
 use lines::LineEnd;
 use lines::line_at;
 use model::LineKind;
@@ -188,9 +191,9 @@ fn read_figure(text: &[u8], plan: &mut [u16], numbers: &mut [f32]) -> Step
         numbers: 0,
     };
     let header = put_line(text, LineKind::Figure, &values, end, begin, plan, numbers);
-    let joints = values[0];
-    let clips = values[1];
-    let states = values[3];
+    let joints = values[JOINT_COUNT_AT];
+    let clips = values[CLIP_COUNT_AT];
+    let states = values[STATE_COUNT_AT];
     let joints_step = read_lines(text, LineKind::Joint, joints, header, plan, numbers);
     let Step::Next(behind_joints) = joints_step else {
         return joints_step;

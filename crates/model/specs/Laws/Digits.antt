@@ -1,17 +1,23 @@
--- A run of digits: its length, its digits, and the size of its number.
-use Prim.Native.Nat.{ℕ, zero, suc, _^_, _≤_, _<_}
+-- Digits: the length of those that are written; and of a run, its length, its digits, and the size of its number.
+use Prim.Native.Nat.{ℕ, zero, suc, _/_, _%_, _^_, _≤_, _<_}
 use native.Mathlib.Omega.{arith}
 use native.Mathlib.Nat.{pow-zero, pow-suc}
 use mathlib.Core.Path.{_≡_, refl}
 use mathlib.Core.Bool.{Bool, true, false, cond}
 use mathlib.Core.List.{List, [], _∷_}
 use lib.Arith.{digits-lt}
-use lib.ListN.{length, getD}
+use lib.ListN.{length, getD, length-append}
 use lib.Dec.{ltb}
 use borrow.Author.Tests.{ltb-true}
 use Rattle.model.specs.Text.{digit, run, numeral}
+use Rattle.model.specs.Program.{glyph, digits}
 
 module _ (base : ℕ) where
+  pub length-digits : (k n : ℕ) → length (digits base k n) ≡ k
+  unfolding digits
+  length-digits zero n = refl
+  length-digits (suc k) n = omega (arith, length-append (digits base k (n / base)) (glyph (n % base) ∷ []), length-digits k (n / base))
+
   pub run-length : (s : List ℕ) → run base s ≤ length s
   unfolding run
   run-length [] = omega arith

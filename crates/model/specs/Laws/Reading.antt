@@ -1,18 +1,17 @@
 -- Every reading uses up text: two bytes a word, nine a number. So a text says how long slices for its figure need to be.
-use Prim.Native.Nat.{ℕ, zero, suc, _+_, _-_, _*_, _≤_, _<_}
+use Prim.Native.Nat.{ℕ, zero, suc, _+_, _-_, _*_, _≤_}
 use native.Mathlib.Omega.{arith}
-use mathlib.Core.Path.{_≡_, refl, sym, ap, _∙_, subst}
+use mathlib.Core.Path.{_≡_, refl, subst}
 use mathlib.Core.Bool.{Bool, true, false, cond}
 use mathlib.Core.List.{List, [], _∷_, _++_}
 use lib.ListN.{length, getD, take, drop, length-drop, length-append}
 use lib.Seq.{length-take-le}
 use lib.Dec.{eqb}
-use borrow.Author.Tests.{eqb-true}
 use Rattle.model.specs.declared.LineKind.{LineKind}
 use Rattle.model.specs.declared.LineKind.the-variants.{Figure, Joint, Clip, State, Node, Go, Pose}
 use Rattle.model.specs.Plan.{jointCount, clipCount, stateCount}
-use Rattle.model.specs.Text.{limits, decimalCount, bitsCount, fieldCount, Line, malformed, line, lineIn, Reading, bad, got, prefixed, andThen, times, fromLine, readLine, fromState, readState, readEnd, poseCount, readFigure}
-use Rattle.model.specs.Laws.Text.{LineLaw, line-law}
+use Rattle.model.specs.Text.{limits, decimalCount, bitsCount, Line, malformed, line, lineIn, Reading, bad, got, prefixed, andThen, times, fromLine, readLine, fromState, readState, readEnd, poseCount, readFigure}
+use Rattle.model.specs.Laws.Text.{line-law}
 
 unfoldable pub Uses : List ℕ → Reading → Type 0
 Uses s (bad m) = Unit {0}

@@ -3,17 +3,15 @@ use Prim.Native.Nat.{ℕ, zero, suc, _+_, _-_, _*_, _≤_, _<_, _^_}
 use native.Mathlib.Omega.{arith}
 use mathlib.Core.Path.{_≡_, refl, sym, ap, _∙_, subst}
 use mathlib.Core.Bool.{Bool, true, false, cond, not, _&&_, _||_}
-use mathlib.Core.List.{List, [], _∷_, _++_}
-use lib.ListN.{length, getD, take, drop, length-drop, length-append, length-take}
-use lib.Seq.{length-take-le}
-use lib.Dec.{ltb, leb, eqb}
-use borrow.Author.Tests.{lt-ltb, le-ltb, ltb-true, leb-true, eqb-true}
+use mathlib.Core.List.{List, [], _∷_}
+use lib.ListN.{length, getD, drop, length-drop}
+use lib.Dec.{leb, eqb}
+use borrow.Author.Tests.{lt-ltb, le-ltb, leb-true, eqb-true}
 use Rattle.model.specs.declared.LineKind.{LineKind}
 use Rattle.model.specs.declared.LineKind.the-variants.{Figure, Joint, Clip, State, Node, Go, Pose}
 use Rattle.model.specs.declared.FieldForm.{FieldForm}
 use Rattle.model.specs.declared.FieldForm.the-variants.{Decimal, Bits}
-use Rattle.model.specs.Plan.{jointCount, clipCount, stateCount}
-use Rattle.model.specs.Text.{front, comma, lineFeed, digit, run, numeral, baseOf, isField, Field, none, field, fieldIn, maxWord, name, limits, bitsCount, decimalCount, fieldCount, formOf, Line, malformed, line, withField, fieldThen, lastFields, begins, lineIn, Reading, bad, got, prefixed, andThen, times, fromLine, readLine, fromState, readState, readEnd, poseCount, readFigure}
+use Rattle.model.specs.Text.{front, comma, lineFeed, run, numeral, baseOf, isField, Field, none, field, fieldIn, name, limits, bitsCount, decimalCount, fieldCount, formOf, Line, malformed, line, withField, fieldThen, lastFields, begins, lineIn}
 use Rattle.model.specs.Laws.Tests.{and-left, and-right}
 use Rattle.model.specs.Laws.Digits.{run-length, numeral-small}
 

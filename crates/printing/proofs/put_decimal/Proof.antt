@@ -3,7 +3,7 @@ use borrow.Author.Needs.{needs}
 use mathlib.Core.List.{append-nil}
 use native.Mathlib.Omega.{arith}
 use Rattle.model.specs.Program.{decimalText, decimalFields}
-use Rattle.printing.proofs.Laws.{length-digits}
+use Rattle.model.specs.Laws.Digits.{length-digits}
 use Rattle.printing.proofs.put_decimal.Statement.{statement}
 use Rattle.printing.proofs.put_decimal.Tie as tie
 

@@ -6,7 +6,8 @@ use native.Mathlib.Omega.{arith}
 use lib.ListN.{take, drop}
 use Rattle.model.specs.Program.{bitsFields}
 use Rattle.printing.specs.Written.{Written, floatFields}
-use Rattle.printing.proofs.Laws.{nothing-written, length-written, length-digits, next-float}
+use Rattle.model.specs.Laws.Digits.{length-digits}
+use Rattle.printing.proofs.Laws.{nothing-written, length-written, next-float}
 use Rattle.printing.proofs.put_floats.Statement.{statement}
 use Rattle.printing.proofs.put_floats.Tie as tie
 

@@ -12,7 +12,7 @@ use Rattle.model.specs.Program.{part, lineText, stateText, figureText}
 use Rattle.round_trip.specs.Laws.Lines.{Limited, limited-length, line-written}
 use Rattle.round_trip.specs.Laws.Parts.{Holds, part-one, holds-all}
 use Rattle.round_trip.specs.Laws.Rows.{FittingAt}
-use Rattle.round_trip.specs.Laws.Shape.{numbersAt, joint-row, clip-row, node-row, go-row, pose-row, header, counts, nodes, transitions, states, state-text, figure-text, joints-same, clips-same, states-same, samples-same}
+use Rattle.round_trip.specs.Laws.Shape.{numbersAt, joint-row, clip-row, node-row, go-row, pose-row, header, nodes, transitions, states, state-text, figure-text, joints-same, clips-same, states-same, samples-same}
 use Rattle.round_trip.specs.Laws.Writes.{Undone, bad-got, prefixed-cases, undone-none, undone-behind, undone-prefixed, undone-then, undone-map, undone-text, undone-moved, undone-times, undone-line, undone-row, undone-lines}
 
 -- a state's line

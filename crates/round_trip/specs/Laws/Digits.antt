@@ -4,17 +4,17 @@ use native.Mathlib.Omega.{arith}
 use native.Mathlib.Decide.{decLt}
 use native.Mathlib.Nat.{mod-lt, div-add-mod', div-lt-iff-lt-mul, pow-zero, pow-suc}
 use mathlib.Core.Path.{_≡_, refl}
-use mathlib.Core.Bool.{Bool, true, false, cond}
-use mathlib.Core.List.{List, [], _∷_, _++_, append-assoc}
-use lib.ListN.{length, getD, drop, length-append}
+use mathlib.Core.Bool.{Bool, true, false}
+use mathlib.Core.List.{List, _∷_, _++_, append-assoc}
+use lib.ListN.{length, getD, drop}
 use lib.Seq.{getD-at, drop-cons}
-use lib.Arith.{digits-lt, digits-div, digits-mod}
-use lib.Dec.{ltb}
-use borrow.Author.Tests.{lt-ltb, le-ltb, le-leb, lt-leb, ltb-true}
+use lib.Arith.{digits-div, digits-mod}
+use borrow.Author.Tests.{lt-ltb, le-ltb, le-leb, lt-leb}
 use Rattle.model.specs.Check.{within}
 use Rattle.model.specs.Laws.Tests.{within-low, within-high}
 use Rattle.model.specs.Text.{digit, run, numeral}
 use Rattle.model.specs.Program.{glyph, digits}
+use Rattle.model.specs.Laws.Digits.{length-digits, run-length, run-digit}
 
 -- ---- one digit
 
@@ -49,11 +49,6 @@ module _ (base : ℕ) (some : 0 < base) (few : base ≤ 16) where
   written-digit : (n : ℕ) → digit (glyph (n % base)) ≡ n % base
   written-digit n = digit-glyph (n % base) (omega (arith, mod-lt n some))
 
-  pub length-digits : (k n : ℕ) → length (digits base k n) ≡ k
-  unfolding digits
-  length-digits zero n = refl
-  length-digits (suc k) n = rw (length-append, length-digits k (n / base)) (omega arith)
-
   pub run-digits : (k n : ℕ) (r : List ℕ) → run base (digits base k n ++ r) ≡ k + run base r
   unfolding digits run
   run-digits zero n r = omega arith
@@ -68,44 +63,19 @@ module _ (base : ℕ) (some : 0 < base) (few : base ≤ 16) where
       rw (
         append-assoc,
         numeral-digits k (n / base) (glyph (n % base) ∷ r) e,
-        getD-at (digits base k (n / base)) (glyph (n % base)) r 0 k (length-digits k (n / base)),
+        getD-at (digits base k (n / base)) (glyph (n % base)) r 0 k (length-digits base k (n / base)),
         written-digit n,
       )
       (div-add-mod' n base)
 
   -- ---- read, then written
 
-  pub run-length : (s : List ℕ) → run base s ≤ length s
-  unfolding run
-  run-length [] = omega arith
-  run-length (b ∷ s) = go (ltb (digit b) base) (run-length s)
-    where
-      go : (x : Bool) → run base s ≤ length s → cond x (suc (run base s)) 0 ≤ suc (length s)
-      go true h = omega arith
-      go false h = omega arith
-
-  pub run-digit : (s : List ℕ) (k : ℕ) → k < run base s → digit (getD s k 0) < base
-  unfolding run
-  run-digit [] k h = absurd (omega arith)
-  run-digit (b ∷ s) k h = go (ltb (digit b) base) refl k h (run-digit s)
-    where
-      go : (x : Bool) → ltb (digit b) base ≡ x → (k : ℕ) → k < cond x (suc (run base s)) 0 → ((k : ℕ) → k < run base s → digit (getD s k 0) < base)
-          → digit (getD (b ∷ s) k 0) < base
-      go true e zero h later = ltb-true (digit b) base e
-      go true e (suc k) h later = later k (omega arith)
-      go false e k h later = absurd (omega arith)
-
-  pub numeral-below : (s : List ℕ) (k : ℕ) → k ≤ run base s → numeral base k s < base ^ k
-  unfolding numeral
-  numeral-below s zero h = rw pow-zero (omega arith)
-  numeral-below s (suc k) h = rw pow-suc (digits-lt (numeral-below s k (omega arith)) (run-digit s k h))
-
   pub digits-numeral : (s : List ℕ) (k : ℕ) → k ≤ run base s → digits base k (numeral base k s) ++ drop k s ≡ s
   unfolding digits numeral
   digits-numeral s zero h = refl
   digits-numeral s (suc k) h =
-      let d : digit (getD s k 0) < base = run-digit s k h in
-      let there : k < length s = omega (arith, run-length s) in
+      let d : digit (getD s k 0) < base = run-digit base s k h in
+      let there : k < length s = omega (arith, run-length base s) in
       rw (
         digits-div (numeral base k s) d,
         digits-mod (numeral base k s) d,

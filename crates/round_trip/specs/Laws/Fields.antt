@@ -17,7 +17,8 @@ use Rattle.model.specs.Check.{within}
 use Rattle.model.specs.Laws.Tests.{and-left, and-right, or-right, not-true}
 use Rattle.model.specs.Text.{front, digit, run, numeral, baseOf, isField, none, field, fieldIn}
 use Rattle.model.specs.Program.{glyph, digits, places}
-use Rattle.round_trip.specs.Laws.Digits.{digit-glyph, glyph-digit, length-digits, run-digits, numeral-digits, run-digit, numeral-below, digits-numeral}
+use Rattle.model.specs.Laws.Digits.{length-digits, run-digit, numeral-small}
+use Rattle.round_trip.specs.Laws.Digits.{digit-glyph, glyph-digit, run-digits, numeral-digits, digits-numeral}
 
 -- ---- how many decimal digits a number has
 
@@ -73,11 +74,11 @@ numeral-some (suc j) s some = omega (arith, numeral-some j s some)
 -- digits without a leading zero are as many as their number has
 pub places-numeral : (f j : ℕ) (s : List ℕ) → j < run 10 s → 0 < digit (front s) → numeral 10 (suc j) s < 10 ^ suc f → places f (numeral 10 (suc j) s) ≡ suc j
 unfolding places numeral
-places-numeral f zero s there some h = places-one f (numeral 10 1 s) (omega (arith, run-digit 10 (omega arith) (omega arith) s 0 there))
+places-numeral f zero s there some h = places-one f (numeral 10 1 s) (omega (arith, run-digit 10 s 0 there))
 places-numeral zero (suc j) s there some h = absurd (omega (arith, numeral-some j s some))
 places-numeral (suc f) (suc j) s there some h =
     let n = numeral 10 (suc j) s in
-    let d : digit (getD s (suc j) 0) < 10 = run-digit 10 (omega arith) (omega arith) s (suc j) there in
+    let d : digit (getD s (suc j) 0) < 10 = run-digit 10 s (suc j) there in
     let large : 10 ≤ n * 10 + digit (getD s (suc j) 0) = omega (arith, numeral-some j s some) in
     rw (le-ltb (n * 10 + digit (getD s (suc j) 0)) 10 large, digits-div n d, places-numeral f j s (omega arith) some (omega arith))
 
@@ -93,7 +94,7 @@ front-some s there other = go (ℕ-discrete (digit (front s)) 0)
 normal-places : (k : ℕ) (s : List ℕ) → k ≤ run 10 s → 1 ≤ k → (eqb k 1 || not (eqb (front s) 48)) ≡ true → numeral 10 k s < 10 ^ 20
     → places 19 (numeral 10 k s) ≡ k
 normal-places zero s there some normal h = absurd (omega arith)
-normal-places (suc zero) s there some normal h = places-one 19 (numeral 10 1 s) (numeral-below 10 (omega arith) (omega arith) s 1 there)
+normal-places (suc zero) s there some normal h = places-one 19 (numeral 10 1 s) (numeral-small 10 s 1 there)
 normal-places (suc (suc j)) s there some normal h =
     places-numeral 19 (suc j) s there
     (front-some s (omega arith) (eqb-false (front s) 48 (not-true _ (or-right (eqb (suc (suc j)) 1) _ normal (ne-eqb (suc (suc j)) 1 (omega arith))))))
@@ -161,7 +162,7 @@ width-is (Decimal limit) s few e =
 width-is Bits s few e =
     let k = run 16 s in
     let eight : k ≡ 8 = eqb-true k 8 e in
-    let below : numeral 16 k s < 16 ^ 8 = subst (λ (n : ℕ). numeral 16 k s < 16 ^ n) eight (numeral-below 16 (omega arith) (omega arith) s k (omega arith)) in
+    let below : numeral 16 k s < 16 ^ 8 = subst (λ (n : ℕ). numeral 16 k s < 16 ^ n) eight (numeral-small 16 s k (omega arith)) in
     (sym eight, (omega arith))
 
 module _ (form : FieldForm) (few : limitOf form ≤ maxPattern) where
@@ -176,7 +177,7 @@ module _ (form : FieldForm) (few : limitOf form ≤ maxPattern) where
         run-is,
         is-field form v r few h,
         numeral-digits base (base-some form) (base-few form) k v r (width-holds form v few h),
-        drop-at (digits base k v) r k (length-digits base (base-some form) (base-few form) k v),
+        drop-at (digits base k v) r k (length-digits base k v),
       )
 
   pub field-written : (v : ℕ) (s r : List ℕ) → fieldIn form s ≡ field v r → (s ≡ fieldText form v ++ r) × (v ≤ limitOf form)

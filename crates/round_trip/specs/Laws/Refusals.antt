@@ -2,16 +2,16 @@
 use Prim.Native.Nat.{ℕ, zero, suc, _+_, _-_, _*_, _≤_, _<_}
 use native.Mathlib.Omega.{arith}
 use native.Mathlib.Nat.{add-zero}
-use mathlib.Core.Path.{_≡_, refl, sym, ap, _∙_}
-use mathlib.Core.Bool.{Bool, true, false, cond, not, _&&_, _||_}
+use mathlib.Core.Path.{_≡_, ap}
+use mathlib.Core.Bool.{Bool, true, false}
 use mathlib.Core.List.{List}
 use lib.ListN.{length}
-use lib.Dec.{leb, ltb, eqb}
+use lib.Dec.{leb, eqb}
 use borrow.Author.Tests.{lt-ltb, le-leb, eq-eqb}
 use Rattle.model.specs.Answers.{Verdict, accepted, refused, _then_, each, require}
-use Rattle.model.specs.Plan.{maxJoints, maxClips, maxParameters, maxStates, maxSamples, maxNodes, maxTransitions, maxClipNodes, word, jointCountAt, clipCountAt, parameterCountAt, stateCountAt, initialStateAt, parentAt, jointCount, clipCount, parameterCount, stateCount, initialState, parent, isRoot, sampleCountAt, sampleCount, afterNodes, afterTransitions, stateAt, nodeCount, kindAt, inputAAt, inputBAt, nodeParameterAt, kind, isClip, inputA, inputB, nodeParameter, transitionCountAt, transitionCount, conditionParameterAt, operatorAt, targetStateAt, conditionParameter, operator, targetState, planEnd, clipNode, numbersLength}
-use Rattle.model.specs.Check.{wordIs, within, checkHeader, checkParent, checkSampleCount, used, checkNode, checkTransition, checkState, check}
-use Rattle.round_trip.specs.RoundTrip.{OfContent, ofContent}
+use Rattle.model.specs.Plan.{parentAt, jointCount, clipCount, stateCount, sampleCountAt, afterNodes, afterTransitions, stateAt, nodeCount, kindAt, transitionCountAt, transitionCount, conditionParameterAt, planEnd, numbersLength}
+use Rattle.model.specs.Check.{wordIs, checkHeader, checkParent, checkSampleCount, checkNode, checkTransition, checkState, check}
+use Rattle.round_trip.specs.RoundTrip.{ofContent}
 
 -- ---- rows of checks
 
