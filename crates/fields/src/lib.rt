@@ -104,18 +104,18 @@ fn field_at(text: &[u8], at: usize, form: FieldForm) -> Field
 
 // ---- the cursor: a text and a position in it, held together
 
-pub struct Fields<'a> {
-    pub text: &'a [u8],
-    pub at: usize,
+struct Fields<'a> {
+    text: &'a [u8],
+    at: usize,
 }
 
-pub fn new<'a>(text: &'a [u8], at: usize) -> Fields<'a>
+fn new<'a>(text: &'a [u8], at: usize) -> Fields<'a>
     ensures { λ r. ⌜ (r .text ≡ text .entry) × (r .at ≡ at) ⌝ }
 {
     Fields { text, at }
 }
 
-pub fn read<'a>(fields: Fields<'a>, form: FieldForm) -> Field
+fn read<'a>(fields: Fields<'a>, form: FieldForm) -> Field
     ensures { λ r. ⌜ found (now (fields .entry .text)) r ≡ fieldIn form (drop (fields .entry .at) (now (fields .entry .text))) ⌝ }
 {
     field_at(fields.text, fields.at, form)

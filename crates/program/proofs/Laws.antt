@@ -25,6 +25,8 @@ use Rattle.model.specs.Promises.{Started, Framed, TextRead}
 use Rattle.model.specs.Laws.Output.{matrix-at, frame-length}
 use Rattle.model.specs.Laws.Passed.{initial-below, few-joints}
 use Rattle.model.specs.Laws.Reading.{figure-fits}
+use Rattle.round_trip.specs.RoundTrip.{mostWords}
+use Rattle.round_trip.specs.Theorems.{words-most}
 
 -- ---- one frame
 
@@ -100,7 +102,7 @@ pub record FigureRead (s plan : List ℕ) (numbers : List Float) (words count : 
   pub lines : played (take words plan) (take count numbers) (startVerdict (take words plan) (take count numbers)) ≡ printed s
 
 module _ (s planOld planNew : List ℕ) (numbersOld numbersNew : List Float) (r : TextAnswer) (done : TextRead s planOld planNew numbersOld numbersNew r)
-    (short : length s ≤ maxText) (words-room : 32768 ≤ length planOld) (numbers-room : 7281 ≤ length numbersOld) where
+    (short : length s ≤ maxText) (words-room : mostWords ≤ length planOld) (numbers-room : 7281 ≤ length numbersOld) where
   printed-short : printed s ≡ printedFrom (readFigure s)
   unfolding printed
   printed-short = rw (le-ltb maxText (length s) short)
@@ -111,6 +113,7 @@ module _ (s planOld planNew : List ℕ) (numbersOld numbersNew : List Float) (r 
   unfolding textVerdict
   room-enough ws bs rest n e =
       let fits : 2 * length ws + 9 * length bs ≤ length s = figure-fits s ws bs rest n e in
+      let few : length ws ≤ mostWords = words-most s ws bs rest n e in
       rw (e, le-leb (length ws) (length planOld) (omega arith), le-leb (length bs) (length numbersOld) (omega arith))
 
   pub refusal-printed : (n p : ℕ) → r ≡ text-answer.Refused n p → refusedLine n p ≡ printed s

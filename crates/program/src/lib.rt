@@ -42,12 +42,12 @@ fn play(plan: &[u16], numbers: &[f32], out: &mut [u8]) -> usize
     }
 }
 
-// The slices hold any figure of a text that is not too long: a word takes two bytes of it at the least, and a number nine.
+// The slices hold the figure of any text that is not too long: the limits allow no more words, and each number takes nine bytes of the text.
 fn read_and_play(text: &[u8], out: &mut [u8]) -> usize
     requires { ⌜ (length (now text) ≤ 65536) × (9792 ≤ length (now out)) ⌝ }
     ensures { λ r. ⌜ (r ≡ length (printed (now (text .entry)))) × (now (out .exit) ≡ overwritten (printed (now (text .entry))) (now (out .entry))) ⌝ }
 {
-    let mut plan = [0u16; 32768];
+    let mut plan = [0u16; 2869];
     let mut numbers = [0.0f32; 7281];
     let read = text::read(text, &mut plan, &mut numbers);
     match read {

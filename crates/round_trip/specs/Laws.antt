@@ -11,3 +11,4 @@ pub mod Forward
 pub mod Backward
 pub mod Patterns
 pub mod Refusals
+pub mod Longest

@@ -1,5 +1,5 @@
 -- Writing a figure as text and reading it undo each other. The claims are in the words of Counted.antt and RoundTrip.antt.
-use Prim.Native.Nat.{ℕ, _<_}
+use Prim.Native.Nat.{ℕ, _≤_, _<_}
 use native.Mathlib.Omega.{arith}
 use mathlib.Core.Path.{_≡_, ap, _∙_}
 use mathlib.Core.List.{List, [], map, append-nil}
@@ -14,12 +14,13 @@ use Rattle.model.specs.Run.{startVerdict}
 use Rattle.round_trip.specs.Laws.Fields.{maxPattern}
 use Rattle.round_trip.specs.Laws.Lines.{Limited, most-getD}
 use Rattle.round_trip.specs.Counted.{CountedPlan, Counted}
-use Rattle.round_trip.specs.RoundTrip.{Reads, Writes, floatsText, ReadsFloats, WritesFloats, ofContent}
+use Rattle.round_trip.specs.RoundTrip.{Reads, Writes, floatsText, ReadsFloats, WritesFloats, mostWords, ofContent}
 use Rattle.round_trip.specs.Laws.Parts.{holds-all, holds-whole}
 use Rattle.round_trip.specs.Laws.Patterns.{floats-same, patterns-below, floats-fit, canonical-same}
 use Rattle.round_trip.specs.Laws.Forward.{got-figure}
 use Rattle.round_trip.specs.Laws.Backward.{ends-figure, undone-figure}
 use Rattle.round_trip.specs.Laws.Refusals.{check-of}
+use Rattle.round_trip.specs.Laws.Longest.{plan-most}
 
 -- what is written for a figure that a text can hold is read back
 pub reads-back : (plan bits : List ℕ) → Counted plan bits → Reads (figureText plan bits) plan bits
@@ -83,3 +84,7 @@ unfolding startVerdict
 content-only text ws bs rest n e =
     let counts = writes-back text ws bs rest n e .counted .counts in
     check-of ws (counts .planLength) (length (floatsOf bs)) (length-map bs (ofBits binary32) ∙ counts .numbersCount)
+
+-- how long a slice has to be for the plan of any text
+pub words-most : (text ws bs rest : List ℕ) (n : ℕ) → readFigure text ≡ got ws bs rest n → length ws ≤ mostWords
+words-most text ws bs rest n e = plan-most ws (length bs) (writes-back text ws bs rest n e .counted .counts)
