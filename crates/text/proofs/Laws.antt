@@ -1,4 +1,5 @@
 -- How steps of a reading follow one another, over plain values. Assumes nothing.
+use borrow.Author.Needs.{needs}
 use Prim.Native.Nat.{ℕ, zero, suc, _+_, _-_, _≤_, _<_}
 use native.Mathlib.Nat.{add-zero, add-suc}
 use native.Mathlib.Numerals.{add-one}
@@ -169,3 +170,6 @@ module _ {text : List ℕ} {read : List ℕ → Reading} {count : ℕ} {r : Prog
 
       pub through-stops : tagOf step-type step ≡ 1 → stepped text r p₀ p₂ n₀ n₂ step (times count read (drop (r .at) text))
       through-stops = times-stops text r p₀ n₀ read q p₁ n₁ i (t .so-far) p₂ n₂ step this count less
+
+-- with these `search` closes the needs of a loop that keeps `Through`
+pub ruleset through = (needs, through-none, through-here, through-all, through-next, through-stops)
