@@ -1,4 +1,5 @@
 -- How steps of a reading follow one another, over plain values. Assumes nothing.
+use borrow.Author.Needs.{needs}
 use Prim.Native.Nat.{ℕ, zero, suc, _+_, _-_, _≤_, _<_}
 use native.Mathlib.Nat.{add-zero, add-suc}
 use native.Mathlib.Numerals.{add-one}
@@ -113,28 +114,42 @@ module _ (text : List ℕ) (r q : Progress) (p₀ p₁ p₂ : List ℕ) (n₀ n�
 
 -- ---- a loop of readings
 
-module _ (text : List ℕ) (r : Progress) (p₀ : List ℕ) (n₀ : List Float) (read : List ℕ → Reading) where
-  pub times-start : InText text r → stepped text r p₀ p₀ n₀ n₀ (Next r) (times 0 read (drop (r .at) text))
+-- what such a loop keeps before its reading i of count: the step of the first i, from r to q, in slices of the same lengths
+pub record Through (text : List ℕ) (read : List ℕ → Reading) (count : ℕ) (r : Progress) (p₀ : List ℕ) (n₀ : List Float)
+    (q : Progress) (p₁ : List ℕ) (n₁ : List Float) (i : ℕ) : Type 0 where
+  pub so-far : stepped text r p₀ p₁ n₀ n₁ (Next q) (times i read (drop (r .at) text))
+  pub most : i ≤ count
+  pub plan : length p₁ ≡ length p₀
+  pub numbers : length n₁ ≡ length n₀
+
+module _ {text : List ℕ} {read : List ℕ → Reading} {count : ℕ} {r : Progress} {p₀ : List ℕ} {n₀ : List Float} where
+  pub through-none : InText text r → Through text read count r p₀ n₀ r p₀ n₀ 0
   unfolding stepped times
-  times-start h = moved-nothing text r (drop (r .at) text) p₀ n₀ h refl
+  through-none h = record { so-far = moved-nothing text r (drop (r .at) text) p₀ n₀ h refl; most = omega arith; plan = refl; numbers = refl }
 
-  module _ (q : Progress) (p₁ : List ℕ) (n₁ : List Float) (i : ℕ) (so-far : stepped text r p₀ p₁ n₀ n₁ (Next q) (times i read (drop (r .at) text))) where
-    pub times-ends : (count : ℕ) → i ≤ count → count ≤ i → stepped text r p₀ p₁ n₀ n₁ (Next q) (times count read (drop (r .at) text))
-    times-ends count h k = let e : count ≡ i = omega arith in rw e so-far
+  module _ {q : Progress} {p₁ : List ℕ} {n₁ : List Float} {i : ℕ} (t : Through text read count r p₀ n₀ q p₁ n₁ i) where
+    pub through-here : InText text r → InText text q
+    through-here h = arrives text r p₀ p₁ n₀ n₁ (times i read (drop (r .at) text)) (Next q) (t .so-far) q h refl
 
-    module _ (p₂ : List ℕ) (n₂ : List Float) (step : Step) (this : stepped text q p₁ p₂ n₁ n₂ step (read (drop (q .at) text))) where
+    pub through-all : count ≤ i → stepped text r p₀ p₁ n₀ n₁ (Next q) (times count read (drop (r .at) text))
+    through-all k = let e : count ≡ i = omega arith in rw e (t .so-far)
+
+    module _ (less : i < count) (p₂ : List ℕ) (n₂ : List Float) (step : Step) (this : stepped text q p₁ p₂ n₁ n₂ step (read (drop (q .at) text))) where
       next : stepped text r p₀ p₂ n₀ n₂ step (times (suc i) read (drop (r .at) text))
       unfolding times
-      next = goes text r q p₀ p₁ p₂ n₀ n₁ n₂ (times i read (drop (r .at) text)) (λ _. read) (Next q) step refl so-far this
+      next = goes text r q p₀ p₁ p₂ n₀ n₁ n₂ (times i read (drop (r .at) text)) (λ _. read) (Next q) step refl (t .so-far) this
 
-      pub times-next : (z : Progress) → step ≡ Next z → stepped text r p₀ p₂ n₀ n₂ (Next z) (times (i + 1) read (drop (r .at) text))
-      times-next z e = rw (add-one, ← e) next
+      pub through-next : {z : Progress} → step ≡ Next z → length p₂ ≡ length p₁ → length n₂ ≡ length n₁ → Through text read count r p₀ n₀ z p₂ n₂ (i + 1)
+      through-next e lp ln = record { so-far = rw (add-one, ← e) next; most = omega arith; plan = lp ∙ t .plan; numbers = ln ∙ t .numbers }
 
       -- a bad line among the first i + 1 readings is the bad line of all
-      pub times-stops : (count : ℕ) → i < count → tagOf step-type step ≡ 1 → stepped text r p₀ p₂ n₀ n₂ step (times count read (drop (r .at) text))
+      pub through-stops : tagOf step-type step ≡ 1 → stepped text r p₀ p₂ n₀ n₂ step (times count read (drop (r .at) text))
       unfolding times
-      times-stops count h t = let e : count ≡ suc i + (count - suc i) = omega arith in rw e (more (count - suc i))
+      through-stops b = let e : count ≡ suc i + (count - suc i) = omega arith in rw e (more (count - suc i))
         where
           more : (k : ℕ) → stepped text r p₀ p₂ n₀ n₂ step (times (suc i + k) read (drop (r .at) text))
           more zero = rw add-zero next
-          more (suc k) = rw add-suc (stops text r p₀ p₂ n₀ n₂ (times (suc i + k) read (drop (r .at) text)) step (more k) (λ _. read) t)
+          more (suc k) = rw add-suc (stops text r p₀ p₂ n₀ n₂ (times (suc i + k) read (drop (r .at) text)) step (more k) (λ _. read) b)
+
+-- with these `search` closes the needs of a loop that keeps `Through`
+pub ruleset through = (needs, through-none, through-here, through-all, through-next, through-stops)

@@ -2,14 +2,13 @@
 use borrow.Author.Needs.{needs}
 use Prim.Native.Nat.{_*_, _-_, _≤_}
 use native.Mathlib.Omega.{arith}
-use mathlib.Core.Path.{_≡_, refl}
-use lib.ListN.{length, drop}
+use mathlib.Core.Path.{refl}
+use lib.ListN.{drop}
 use Rattle.model.specs.declared.LineKind.the-variants.{Clip}
 use Rattle.model.specs.Text.{readLine, times}
-use Rattle.text.specs.declared.put.Step.the-variants.{Next}
 use Rattle.text.specs.Figures.{sampled}
-use Rattle.text.specs.Steps.{InText, LineAt, stepped}
-use Rattle.text.proofs.Laws.{arrives, times-start, times-ends, times-next, times-stops}
+use Rattle.text.specs.Steps.{InText, LineAt}
+use Rattle.text.proofs.Laws.{Through, through-none, through-here, through-all, through-next, through-stops}
 use Rattle.text.proofs.LineLaws.{line-at, line-stops, line-steps}
 use Rattle.text.proofs.FigureLaws.{few-samples, sampled-start, sampled-next, sampled-ends, sampled-bad}
 use Rattle.text.proofs.figure.read_clips.Statement.{statement}
@@ -17,14 +16,14 @@ use Rattle.text.proofs.figure.read_clips.Tie as tie
 
 abbrev Inv-loop : tie.InvT-loop
 Inv-loop text count plan₀ numbers₀ progress₀ samples₀ c₀ plan numbers progress samples c =
-    stepped text progress₀ plan₀ plan numbers₀ numbers (Next progress) (times c (readLine Clip) (drop (progress₀ .at) text))
-    × (c ≤ count) × (length plan ≡ length plan₀) × (length numbers ≡ length numbers₀) × sampled c samples (times c (readLine Clip) (drop (progress₀ .at) text)) × (samples ≤ c * 4096)
+    Through text (readLine Clip) count progress₀ plan₀ numbers₀ progress plan numbers c
+    × sampled c samples (times c (readLine Clip) (drop (progress₀ .at) text)) × (samples ≤ c * 4096)
 
 abbrev μ-loop : tie.MeasureT-loop
 μ-loop text count plan₀ numbers₀ progress₀ samples₀ c₀ plan numbers progress samples c = count - c
 
 here : (c : tie.At-loop Inv-loop μ-loop) → InText (c .before .before .before .before .args .text .now) (c .loop .progress)
-here c = arrives _ _ _ _ _ _ _ _ (c .loop .inv .0) _ (c .before .before .before .before .pre .0) refl
+here c = through-here (c .loop .inv .0) (c .before .before .before .before .pre .0)
 
 -- past the `else` there is a line
 known : (c : tie.After-known-told Inv-loop μ-loop) → let l = c .before .before .before in let p = l .before .before .before in
@@ -35,7 +34,7 @@ known c =
     line-at _ _ (l .line-at .last .1 .1 .1 .0) (p .loop .progress) _ (l .line-at .ensures) _ (here p) (c .before .found .given .1)
 
 loop-holds : tie.Need-loop-holds Inv-loop μ-loop
-loop-holds c = (times-start _ _ _ _ _ (c .before .before .before .pre .0), omega arith, refl, refl, sampled-start _, omega arith)
+loop-holds c = (through-none (c .before .before .before .pre .0), sampled-start _, omega arith)
 
 line-at-requires : tie.Need-line-at-requires Inv-loop μ-loop
 line-at-requires c κs = search needs
@@ -50,10 +49,10 @@ add-t17 : tie.Need-add-t17 Inv-loop μ-loop
 add-t17 c = omega (arith, here (c .before .before .before .before .before .before))
 
 same-length : tie.Need-same-length Inv-loop μ-loop
-same-length c = c .before .before .before .before .before .before .loop .inv .2
+same-length c = c .before .before .before .before .before .before .loop .inv .0 .plan
 
 same-length-2 : tie.Need-same-length-2 Inv-loop μ-loop
-same-length-2 c = c .before .before .before .before .before .before .loop .inv .3
+same-length-2 c = c .before .before .before .before .before .before .loop .inv .0 .numbers
 
 returns : tie.Need-returns Inv-loop μ-loop
 returns c =
@@ -61,7 +60,7 @@ returns c =
     let t = l .before .before in
     let p = t .before .loop in
     let line = line-stops _ _ (l .line-at .last .1 .1 .1 .0) (p .progress) _ (l .line-at .ensures) _ _ _ _ (c .before .before .match .keys2) in
-    let all = times-stops _ _ _ _ _ _ _ _ _ (p .inv .0) _ _ _ line _ (t .loop-test .taken) refl in
+    let all = through-stops (p .inv .0) (t .loop-test .taken) _ _ _ line refl in
     (all, sampled-bad _ _ _ _ _ _ _ _ _ _ all)
 
 put-line-requires : tie.Need-put-line-requires Inv-loop μ-loop
@@ -85,24 +84,21 @@ loop-again c =
     let l = known (p .before .before .before .before) in
     let inv = p .before .before .before .before .before .before .before .before .before .before .loop .inv in
     let few = few-samples l in (
-      times-next _ _ _ _ _ _ _ _ _ (inv .0) _ _ _ (line-steps l _ _ _ _ _ (p .put-line .ensures)) _ refl,
-      omega arith,
-      search needs,
-      search needs,
-      sampled-next l _ _ _ _ _ _ _ (inv .0) (inv .4),
+      through-next (inv .0) (omega arith) _ _ _ (line-steps l _ _ _ _ _ (p .put-line .ensures)) refl (search needs) (search needs),
+      sampled-next l _ _ _ _ _ _ _ (inv .0 .so-far) (inv .1),
       omega arith,
     )
 
 same-length-3 : tie.Need-same-length-3 Inv-loop μ-loop
-same-length-3 c = c .before .loop .inv .2
+same-length-3 c = c .before .loop .inv .0 .plan
 
 same-length-4 : tie.Need-same-length-4 Inv-loop μ-loop
-same-length-4 c = c .before .loop .inv .3
+same-length-4 c = c .before .loop .inv .0 .numbers
 
 returns-2 : tie.Need-returns-2 Inv-loop μ-loop
 returns-2 c =
     let inv = c .before .loop .inv in
-    (times-ends _ _ _ _ _ _ _ _ _ (inv .0) _ (inv .1) (c .loop-test .left), sampled-ends _ _ _ _ (inv .4) (inv .1) (c .loop-test .left))
+    (through-all (inv .0) (c .loop-test .left), sampled-ends _ _ _ _ (inv .1) (inv .0 .most) (c .loop-test .left))
 
 pub read-clips-spec : {M : Type 1} → statement M
 read-clips-spec =
