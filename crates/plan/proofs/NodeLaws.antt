@@ -12,14 +12,13 @@ use lib.ListN.{getD, length, set, length-set, replicate, getD-replicate}
 use lib.Seq.{getD-set-same, getD-set-other}
 use borrow.Author.Tests.{lt-ltb, le-ltb, eq-eqb, ne-eqb, not-true, not-false}
 use Rattle.model.specs.declared.Answer.{Answer}
-use Rattle.model.specs.declared.Answer.the-variants.{Accepted}
+use Rattle.model.specs.declared.Answer.the-variants.{Accepted, Refused}
 use Rattle.model.proofs.Answer.{the-type}
 use Rattle.model.specs.Answers.{Verdict, accepted, refused, values, _then_, each, require}
 use Rattle.model.specs.Plan.{maxClipNodes, word, clipCount, parameterCount, kindAt, kind, isClip, inputA, inputB, nodeParameter, clipNode}
 use Rattle.model.specs.Check.{wordIs, used, checkNode}
-use Rattle.model.specs.Laws.Answers.{each-next, each-stops}
 use Rattle.plan.specs.Parts.{checkClip, checkBlend, Marks}
-use Rattle.plan.proofs.Laws.{stops, goes}
+use Rattle.plan.proofs.Laws.{stops, goes, Passing, passing-next, passing-stops}
 
 -- ---- the kind of node i of state s, which stands at `at`
 
@@ -143,11 +142,11 @@ module _ (plan : List ℕ) (s i : ℕ) (marks : List Bool) (so-far : Marks plan 
 
 -- ---- the search for a node that is no input
 
-module _ (marks : List Bool) (place k : ℕ) (so-far : each k (λ k. require (getD marks k false) 4 place) ≡ accepted) where
-  pub used-goes : not (getD marks k false) ≡ false → each (k + 1) (λ k. require (getD marks k false) 4 place) ≡ accepted
-  unfolding require
-  used-goes e = rw add-one (each-next k _ so-far ∙ rw (not-false (getD marks k false) e))
+module _ (marks : List Bool) (place : ℕ) {n k : ℕ} (so-far : Passing (λ k. require (getD marks k false) 4 place) n k) (more : k < n) where
+  pub used-next : not (getD marks k false) ≡ false → Passing (λ k. require (getD marks k false) 4 place) n (k + 1)
+  unfolding require values
+  used-next e = passing-next so-far more Accepted (rw (not-false (getD marks k false) e)) refl
 
-  pub used-refuses : (n : ℕ) → k < n → not (getD marks k false) ≡ true → refused 4 place 0 ≡ each n (λ k. require (getD marks k false) 4 place)
-  unfolding require
-  used-refuses n h e = sym (each-stops n _ k 4 place 0 h so-far (rw (not-true (getD marks k false) e)))
+  pub unused-stops : not (getD marks k false) ≡ true → values (Refused 4 place) ≡ each n (λ k. require (getD marks k false) 4 place)
+  unfolding require values
+  unused-stops e = passing-stops so-far more (Refused 4 place) (rw (not-true (getD marks k false) e)) refl
