@@ -2,7 +2,7 @@
 use Prim.Native.Nat.{ℕ, _+_, _≤_, _<_}
 use native.Mathlib.Numerals.{add-one}
 use native.Mathlib.Omega.{arith}
-use mathlib.Core.Path.{_≡_, sym, _∙_}
+use mathlib.Core.Path.{_≡_, refl, sym, _∙_}
 use denote.Enum.Declared.{tagOf}
 use Rattle.model.specs.declared.Answer.{Answer}
 use Rattle.model.specs.declared.Answer.the-variants.{Accepted, Refused}
@@ -28,17 +28,28 @@ goes a b v w q e n = n ∙ sym (then-accepted v w (passed a v q e))
 
 -- ---- a loop over `each`
 
-module _ (f : ℕ → Verdict) (a : Answer) (i : ℕ) (so-far : each i f ≡ accepted) (this : values a ≡ f i) where
-  pub each-goes : a ≡ Accepted → each (i + 1) f ≡ accepted
-  each-goes q = rw add-one (each-next i f so-far ∙ passed a (f i) q this)
+-- the first i of n checks pass
+pub record Passing (f : ℕ → Verdict) (n i : ℕ) : Type 0 where
+  pub passes : each i f ≡ accepted
+  pub within : i ≤ n
 
-  pub each-refuses : (n : ℕ) → i < n → tagOf the-type a ≡ 1 → values a ≡ each n f
+pub passing-none : (f : ℕ → Verdict) (n : ℕ) → Passing f n 0
+unfolding each
+passing-none f n = record { passes = refl; within = omega arith }
+
+module _ {f : ℕ → Verdict} {n i : ℕ} (so-far : Passing f n i) where
+  pub passing-all : n ≤ i → values Accepted ≡ each n f
   unfolding values
-  each-refuses n h t = at a t this
-    where
-      at : (b : Answer) → tagOf the-type b ≡ 1 → values b ≡ f i → values b ≡ each n f
-      at Accepted t e = absurd (omega (arith, t))
-      at (Refused m p) t e = sym (each-stops n f i m p 0 h so-far (sym e))
+  passing-all h = let q : n ≡ i = omega (arith, so-far .within) in rw q (sym (so-far .passes))
 
-pub each-ends : (f : ℕ → Verdict) (i n : ℕ) → each i f ≡ accepted → i ≤ n → n ≤ i → accepted ≡ each n f
-each-ends f i n e h k = let q : n ≡ i = omega arith in rw q (sym e)
+  module _ (more : i < n) (a : Answer) (this : values a ≡ f i) where
+    pub passing-next : a ≡ Accepted → Passing f n (i + 1)
+    passing-next q = record { passes = rw add-one (each-next i f (so-far .passes) ∙ passed a (f i) q this); within = omega arith }
+
+    pub passing-stops : tagOf the-type a ≡ 1 → values a ≡ each n f
+    unfolding values
+    passing-stops t = at a t this
+      where
+        at : (b : Answer) → tagOf the-type b ≡ 1 → values b ≡ f i → values b ≡ each n f
+        at Accepted t e = absurd (omega (arith, t))
+        at (Refused m p) t e = sym (each-stops n f i m p 0 more (so-far .passes) (sym e))

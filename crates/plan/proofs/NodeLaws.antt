@@ -2,7 +2,6 @@
 use Prim.Native.Nat.{ℕ, suc, _+_, _≤_, _<_}
 use native.Mathlib.Omega.{arith}
 use native.Mathlib.Decide.{ℕ-discrete, decLt}
-use native.Mathlib.Numerals.{add-one}
 use mathlib.Core.Path.{_≡_, refl, sym, _∙_}
 use mathlib.Core.Bool.{Bool, true, false, not, _&&_, _||_, or-false, or-true, or-assoc}
 use mathlib.Core.List.{List}
@@ -12,14 +11,13 @@ use lib.ListN.{getD, length, set, length-set, replicate, getD-replicate}
 use lib.Seq.{getD-set-same, getD-set-other}
 use borrow.Author.Tests.{lt-ltb, le-ltb, eq-eqb, ne-eqb, not-true, not-false}
 use Rattle.model.specs.declared.Answer.{Answer}
-use Rattle.model.specs.declared.Answer.the-variants.{Accepted}
+use Rattle.model.specs.declared.Answer.the-variants.{Accepted, Refused}
 use Rattle.model.proofs.Answer.{the-type}
 use Rattle.model.specs.Answers.{Verdict, accepted, refused, values, _then_, each, require}
-use Rattle.model.specs.Plan.{maxClipNodes, word, clipCount, parameterCount, kindAt, kind, isClip, inputA, inputB, nodeParameter, clipNode}
+use Rattle.model.specs.Plan.{maxClipNodes, word, clipCount, parameterCount, kindAt, kind, isClip, inputAAt, inputBAt, inputA, inputB, nodeParameter, clipNode}
 use Rattle.model.specs.Check.{wordIs, used, checkNode}
-use Rattle.model.specs.Laws.Answers.{each-next, each-stops}
 use Rattle.plan.specs.Parts.{checkClip, checkBlend, Marks}
-use Rattle.plan.proofs.Laws.{stops, goes}
+use Rattle.plan.proofs.Laws.{stops, goes, Passing, passing-next, passing-stops}
 
 -- ---- the kind of node i of state s, which stands at `at`
 
@@ -86,30 +84,47 @@ module _ (plan : List ℕ) (s i at : ℕ) (place : at ≡ kindAt plan s i) (n : 
 
 -- ---- the words after the kind of any other node; its inputs are x and y
 
-module _ (plan : List ℕ) (s i at : ℕ) (place : at ≡ kindAt plan s i) (few : i < 32) (marks : List Bool) (so-far : Marks plan s i marks) where
-  free : (k : ℕ) → ltb k i && not (used plan s i k) ≡ ltb k i && not (getD marks k false)
-  free k = go (decLt k i)
-    where
-      go : Dec (k < i) → ltb k i && not (used plan s i k) ≡ ltb k i && not (getD marks k false)
-      go (yes h) = rw (so-far .mark k (omega arith))
-      go (no h) = rw (le-ltb k i (omega arith))
+-- the first of `checkBlend`'s three parts, and the first two
+abbrev pub firstInput : List ℕ → ℕ → ℕ → Verdict
+firstInput plan s i = wordIs plan 4 (inputAAt plan s i) (ltb (inputA plan s i) i && not (used plan s i (inputA plan s i)))
 
-  module _ (x y : ℕ) (first : x ≡ word plan (at + 1)) (second : y ≡ word plan (at + 2)) where
-    blend-words : checkBlend plan s i ≡ wordIs plan 4 (at + 1) (ltb x i && not (getD marks x false)) then wordIs plan 4 (at + 2) (ltb y i && not (getD marks y false) && not (eqb x y)) then
-        wordIs plan 4 (at + 3) (ltb (word plan (at + 3)) (parameterCount plan))
-    unfolding checkBlend inputA inputB nodeParameter
-    blend-words = rw (← place, ← first, ← second, free x, free y)
+abbrev pub bothInputs : List ℕ → ℕ → ℕ → Verdict
+bothInputs plan s i =
+    firstInput plan s i then
+    wordIs plan 4 (inputBAt plan s i) (ltb (inputB plan s i) i && not (used plan s i (inputB plan s i)) && not (eqb (inputA plan s i) (inputB plan s i)))
 
-    module _ (f : Bool) (is : f ≡ ltb x i && not (getD marks x false)) (a : Answer) (e : values a ≡ wordIs plan 4 (at + 1) f) where
-      pub blend-stops : tagOf the-type a ≡ 1 → values a ≡ checkBlend plan s i
-      blend-stops t = stops _ _ _ t (stops _ _ _ t (rw is at e)) ∙ sym blend-words
+module _ (plan : List ℕ) (s i : ℕ) where
+  pub blend-stops : (a : Answer) → values a ≡ firstInput plan s i → tagOf the-type a ≡ 1 → values a ≡ checkBlend plan s i
+  unfolding checkBlend
+  blend-stops a one t = stops _ _ _ t (stops _ _ _ t one)
 
-      module _ (q : a ≡ Accepted) (g : Bool) (is₂ : g ≡ ltb y i && not (getD marks y false)) (b : Answer) (e₂ : values b ≡ wordIs plan 4 (at + 2) (g && not (eqb x y))) where
-        pub blend-stops-second : tagOf the-type b ≡ 1 → values b ≡ checkBlend plan s i
-        blend-stops-second t = stops _ _ _ t (goes _ _ _ _ q (rw is at e) (rw is₂ at e₂)) ∙ sym blend-words
+  pub blend-stops-second : (b : Answer) → values b ≡ bothInputs plan s i → tagOf the-type b ≡ 1 → values b ≡ checkBlend plan s i
+  unfolding checkBlend
+  blend-stops-second b both t = stops _ _ _ t both
 
-        pub blend-ends : b ≡ Accepted → (parameters : ℕ) → parameters ≡ parameterCount plan → (c : Answer) → values c ≡ wordIs plan 4 (at + 3) (ltb (word plan (at + 3)) parameters) → values c ≡ checkBlend plan s i
-        blend-ends q₂ parameters count c e₃ = goes _ _ _ _ q₂ (goes _ _ _ _ q (rw is at e) (rw is₂ at e₂)) (rw count at e₃) ∙ sym blend-words
+module _ (plan : List ℕ) (s i at : ℕ) (place : at ≡ kindAt plan s i) where
+  pub blend-ends : (b : Answer) → b ≡ Accepted → values b ≡ bothInputs plan s i → (parameters : ℕ) → parameters ≡ parameterCount plan
+      → (c : Answer) → values c ≡ wordIs plan 4 (at + 3) (ltb (word plan (at + 3)) parameters) → values c ≡ checkBlend plan s i
+  unfolding checkBlend nodeParameter
+  blend-ends b q both parameters count c e = goes _ _ _ _ q both (rw (place, count) at e)
+
+  module _ (few : i < 32) (marks : List Bool) (so-far : Marks plan s i marks) where
+    free : (k : ℕ) → ltb k i && not (used plan s i k) ≡ ltb k i && not (getD marks k false)
+    free k = go (decLt k i)
+      where
+        go : Dec (k < i) → ltb k i && not (used plan s i k) ≡ ltb k i && not (getD marks k false)
+        go (yes h) = rw (so-far .mark k (omega arith))
+        go (no h) = rw (le-ltb k i (omega arith))
+
+    module _ (x : ℕ) (first : x ≡ word plan (at + 1)) where
+      pub first-input : (f : Bool) → f ≡ ltb x i && not (getD marks x false) → (a : Answer) → values a ≡ wordIs plan 4 (at + 1) f → values a ≡ firstInput plan s i
+      unfolding inputA
+      first-input f is a e = e ∙ rw (← place, ← first, free x, is)
+
+      pub both-inputs : (a : Answer) → a ≡ Accepted → values a ≡ firstInput plan s i → (y : ℕ) → y ≡ word plan (at + 2) → (g : Bool) → g ≡ ltb y i && not (getD marks y false)
+          → (b : Answer) → values b ≡ wordIs plan 4 (at + 2) (g && not (eqb x y)) → values b ≡ bothInputs plan s i
+      unfolding inputA inputB
+      both-inputs a q one y second g is b e = goes _ _ _ _ q one (e ∙ rw (← place, ← first, ← second, free y, is))
 
 -- ---- marks
 
@@ -143,11 +158,11 @@ module _ (plan : List ℕ) (s i : ℕ) (marks : List Bool) (so-far : Marks plan 
 
 -- ---- the search for a node that is no input
 
-module _ (marks : List Bool) (place k : ℕ) (so-far : each k (λ k. require (getD marks k false) 4 place) ≡ accepted) where
-  pub used-goes : not (getD marks k false) ≡ false → each (k + 1) (λ k. require (getD marks k false) 4 place) ≡ accepted
-  unfolding require
-  used-goes e = rw add-one (each-next k _ so-far ∙ rw (not-false (getD marks k false) e))
+module _ (marks : List Bool) (place : ℕ) {n k : ℕ} (so-far : Passing (λ k. require (getD marks k false) 4 place) n k) (more : k < n) where
+  pub used-next : not (getD marks k false) ≡ false → Passing (λ k. require (getD marks k false) 4 place) n (k + 1)
+  unfolding require values
+  used-next e = passing-next so-far more Accepted (rw (not-false (getD marks k false) e)) refl
 
-  pub used-refuses : (n : ℕ) → k < n → not (getD marks k false) ≡ true → refused 4 place 0 ≡ each n (λ k. require (getD marks k false) 4 place)
-  unfolding require
-  used-refuses n h e = sym (each-stops n _ k 4 place 0 h so-far (rw (not-true (getD marks k false) e)))
+  pub unused-stops : not (getD marks k false) ≡ true → values (Refused 4 place) ≡ each n (λ k. require (getD marks k false) 4 place)
+  unfolding require values
+  unused-stops e = passing-stops so-far more (Refused 4 place) (rw (not-true (getD marks k false) e)) refl

@@ -3,28 +3,26 @@ use borrow.Author.Needs.{needs}
 use Prim.Native.Nat.{_+_, _-_, _≤_}
 use native.Mathlib.Numerals.{add-one}
 use native.Mathlib.Omega.{arith}
-use mathlib.Core.Path.{_≡_, refl}
-use Rattle.model.specs.Answers.{accepted, values, each}
+use mathlib.Core.Path.{_≡_}
 use Rattle.model.specs.Plan.{clipNode}
 use Rattle.model.specs.Check.{checkNode}
 use Rattle.model.proofs.Tags.{never}
 use Rattle.layout.proofs.Laws.{kind-place}
 use Rattle.plan.specs.Parts.{Marks}
-use Rattle.plan.proofs.Laws.{passed, each-goes, each-refuses, each-ends}
+use Rattle.plan.proofs.Laws.{passed, Passing, passing-none, passing-next, passing-stops, passing-all}
 use Rattle.plan.proofs.NodeLaws.{marks-none, marks-all}
 use Rattle.plan.proofs.nodes.check_nodes.Statement.{statement}
 use Rattle.plan.proofs.nodes.check_nodes.Tie as tie
 
 abbrev Inv-loop : tie.InvT-loop
 Inv-loop plan state nodes-at n clips parameters first-clip-node used₀ clip-node₀ i₀ used clip-node i =
-    (each i (checkNode plan state) ≡ accepted) × Marks plan state i used × (clip-node ≡ clipNode plan state i) × (clip-node ≤ first-clip-node + i) × (i ≤ n)
+    Passing (checkNode plan state) n i × Marks plan state i used × (clip-node ≡ clipNode plan state i) × (clip-node ≤ first-clip-node + i)
 
 abbrev μ-loop : tie.MeasureT-loop
 μ-loop plan state nodes-at n clips parameters first-clip-node used₀ clip-node₀ i₀ used clip-node i = n - i
 
 loop-holds : tie.Need-loop-holds Inv-loop μ-loop
-unfolding each
-loop-holds c = (refl, marks-none _ _, c .before .pre .6, omega arith, omega arith)
+loop-holds c = (passing-none _ _, marks-none _ _, c .before .pre .6, omega arith)
 
 check-node-requires : tie.Need-check-node-requires Inv-loop μ-loop
 check-node-requires c κs =
@@ -37,7 +35,7 @@ returns c =
     let n = c .before .before in
     let i = n .before .before in
     let t = c .before .match .keys2 in
-    record { answer = each-refuses _ _ _ (i .before .loop .inv .0) (n .check-node .ensures) _ (i .loop-test .taken) t; marks = λ e. absurd (never _ t e) }
+    record { answer = passing-stops (i .before .loop .inv .0) (i .loop-test .taken) _ (n .check-node .ensures) t; marks = λ e. absurd (never _ t e) }
 
 marked-requires : tie.Need-marked-requires Inv-loop μ-loop
 marked-requires c κs =
@@ -55,13 +53,12 @@ loop-again c =
     let told = c .before .before in
     let n = told .before .before in
     let l = n .before .before .before in
-    (each-goes _ _ _ (l .loop .inv .0) (n .check-node .ensures) (told .enum-told .given .1), rw add-one (c .before .marked .ensures), rw add-one (c .counted .ensures .0), omega arith, omega arith)
+    (passing-next (l .loop .inv .0) (n .before .before .loop-test .taken) _ (n .check-node .ensures) (told .enum-told .given .1), rw add-one (c .before .marked .ensures), rw add-one (c .counted .ensures .0), omega arith)
 
 returns-2 : tie.Need-returns-2 Inv-loop μ-loop
-unfolding values
 returns-2 c =
     let l = c .before .loop .inv in
-    record { answer = each-ends _ _ _ (l .0) (l .4) (c .loop-test .left); marks = λ e. marks-all _ _ _ _ (l .1) _ (l .4) (c .loop-test .left) }
+    record { answer = passing-all (l .0) (c .loop-test .left); marks = λ e. marks-all _ _ _ _ (l .1) _ (l .0 .within) (c .loop-test .left) }
 
 pub check-nodes-spec : {M : Type 1} → statement M
 check-nodes-spec =

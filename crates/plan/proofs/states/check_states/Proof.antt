@@ -3,26 +3,25 @@ use borrow.Author.Needs.{needs}
 use Prim.Native.Nat.{_+_, _*_, _-_, _≤_}
 use native.Mathlib.Omega.{arith}
 use mathlib.Core.Path.{_≡_, refl}
-use Rattle.model.specs.Answers.{accepted, values, each}
 use Rattle.model.specs.Plan.{stateAt, total, clipNodesBefore, transitionsBefore}
 use Rattle.model.specs.Check.{checkState}
 use Rattle.model.proofs.Tags.{never}
 use Rattle.layout.proofs.Laws.{clips-next, state-next, transitions-next}
-use Rattle.plan.proofs.Laws.{passed, each-goes, each-refuses, each-ends}
+use Rattle.plan.proofs.Laws.{passed, Passing, passing-none, passing-next, passing-stops, passing-all}
 use Rattle.plan.proofs.StateLaws.{few, ends}
 use Rattle.plan.proofs.states.check_states.Statement.{statement}
 use Rattle.plan.proofs.states.check_states.Tie as tie
 
 abbrev Inv-loop : tie.InvT-loop
 Inv-loop plan from clips parameters states at₀ clip-node₀ transitions₀ s₀ at clip-node transitions s =
-    (each s (checkState plan) ≡ accepted) × (at ≡ stateAt plan s) × (clip-node ≡ clipNodesBefore plan s) × (transitions ≡ transitionsBefore plan s) × (s ≤ states) × (at ≤ 128 + 174 * s) × (clip-node ≤ 16 * s) × (transitions ≤ 16 * s)
+    Passing (checkState plan) states s × (at ≡ stateAt plan s) × (clip-node ≡ clipNodesBefore plan s) × (transitions ≡ transitionsBefore plan s) × (at ≤ 128 + 174 * s) × (clip-node ≤ 16 * s) × (transitions ≤ 16 * s)
 
 abbrev μ-loop : tie.MeasureT-loop
 μ-loop plan from clips parameters states at₀ clip-node₀ transitions₀ s₀ at clip-node transitions s = states - s
 
 loop-holds : tie.Need-loop-holds Inv-loop μ-loop
-unfolding each total clipNodesBefore transitionsBefore
-loop-holds c = (refl, c .before .pre .1, refl, refl, omega arith, omega arith, omega arith, omega arith)
+unfolding total clipNodesBefore transitionsBefore
+loop-holds c = (passing-none _ _, c .before .pre .1, refl, refl, omega arith, omega arith, omega arith)
 
 check-state-requires : tie.Need-check-state-requires Inv-loop μ-loop
 check-state-requires c κs =
@@ -35,7 +34,7 @@ returns c =
     let p = c .before .before in
     let i = p .before in
     let t = c .before .match .keys2 in
-    record { answer = each-refuses _ _ _ (i .before .loop .inv .0) (p .check-state .ensures) _ (i .loop-test .taken) t; end = λ e. absurd (never _ t e); transitions = λ e. absurd (never _ t e) }
+    record { answer = passing-stops (i .before .loop .inv .0) (i .loop-test .taken) _ (p .check-state .ensures) t; end = λ e. absurd (never _ t e); transitions = λ e. absurd (never _ t e) }
 
 loop-again : tie.Need-loop-again Inv-loop μ-loop
 loop-again c =
@@ -47,15 +46,14 @@ loop-again c =
     let transitions = c .word2 .ensures .0 in
     let ok = passed _ _ (told .enum-told .given .1) (p .check-state .ensures) in
     let small = few _ _ _ _ _ (l .1) nodes transitions ok in
-    (each-goes _ _ _ (l .0) (p .check-state .ensures) (told .enum-told .given .1), state-next _ _ _ _ (l .1) nodes _ transitions, clips-next _ _ _ _ (l .1) nodes ok _ (l .2), transitions-next _ _ _ _ (l .1) nodes _ transitions _ (l .3), omega arith, omega arith, omega arith, omega arith)
+    (passing-next (l .0) (p .before .loop-test .taken) _ (p .check-state .ensures) (told .enum-told .given .1), state-next _ _ _ _ (l .1) nodes _ transitions, clips-next _ _ _ _ (l .1) nodes ok _ (l .2), transitions-next _ _ _ _ (l .1) nodes _ transitions _ (l .3), omega arith, omega arith, omega arith)
 
 returns-2 : tie.Need-returns-2 Inv-loop μ-loop
-unfolding values
 returns-2 c =
     let l = c .before .loop .inv in
     let out = c .loop-test .left in
     let plan = c .before .before .before .args .plan .now in
-    record { answer = each-ends _ _ _ (l .0) (l .4) out; end = λ e. ends (stateAt plan) _ _ _ (l .1) (l .4) out; transitions = λ e. ends (transitionsBefore plan) _ _ _ (l .3) (l .4) out }
+    record { answer = passing-all (l .0) out; end = λ e. ends (stateAt plan) _ _ _ (l .1) (l .0 .within) out; transitions = λ e. ends (transitionsBefore plan) _ _ _ (l .3) (l .0 .within) out }
 
 pub check-states-spec : {M : Type 1} → statement M
 check-states-spec =
