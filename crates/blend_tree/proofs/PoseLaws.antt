@@ -4,7 +4,6 @@ use Prim.Native.Nat.{ℕ, suc, _+_, _*_, _-_, _≤_, _<_}
 use native.Mathlib.Nat.{suc-mul, mul-le-mul-right, mod-lt}
 use native.Mathlib.Omega.{arith}
 use mathlib.Core.Path.{_≡_, refl, sym, ap, _∙_}
-use mathlib.Core.Bool.{cond}
 use mathlib.Core.List.{List}
 use lib.ListN.{length, getD}
 use lib.Ieee.{Float}
@@ -14,7 +13,7 @@ use Rattle.model.specs.Numbers.{_*₃₂_}
 use Rattle.model.specs.Plan.{maxSamples, jointCount, clipCount, stateCount, sampleCount, isLerp, clipNode, samplesBefore, posesAt, number, numberAt, numbersLength, samplePose, Rate}
 use Rattle.model.specs.Pose.{identityPose, lerp}
 use Rattle.model.specs.Clips.{firstIndex, secondIndex, localTime, instanceAt, poseAt, clipPose}
-use Rattle.model.specs.Tree.{parameter, additive, nodePose, nodePoses, statePose}
+use Rattle.model.specs.Tree.{parameter, nodePose, nodePoses, statePose}
 use Rattle.model.specs.Laws.Totals.{total-below, total-most}
 use Rattle.model.specs.Laws.Table.{table-at}
 use Rattle.model.specs.Laws.State.{some-nodes}
@@ -28,7 +27,7 @@ use Rattle.animation.specs.declared.Position.{Position}
 use Rattle.animation.specs.Sampling.{positionIn, poseFrom}
 use Rattle.lanes.specs.Lanes.{blockSize, laneAt, LaneSet}
 use Rattle.lanes.proofs.Laws.{done-more, rest-less}
-use Rattle.blend_tree.specs.Blocks.{Filled, Playable, poseOfNode}
+use Rattle.blend_tree.specs.Blocks.{Filled, Playable, combined, poseOfNode}
 use Rattle.blend_tree.proofs.NodeLaws.{passes, NodeRead, is-clip, no-clip, inputs-before}
 
 -- ---- a loop that puts f of x's lane and y's into x, lane by lane
@@ -138,7 +137,7 @@ module _ {plan : List ℕ} {here : StateLayout} {i : ℕ} {words : Node} (r : No
     of-clip local e el = rw (by-table i, is-clip plan (here .state) i (r .found) e, r .found, el)
 
     pub of-inputs : {x y : Pose} → (words .kind ≡ 0 → ⊥) → x ≡ poseOf (words .a) → y ≡ poseOf (words .b)
-        → let p = parameter parameters (words .parameter) in cond (eqb (words .kind) 1) (lerp x y p) (additive x y p) ≡ poseOf i
+        → let p = parameter parameters (words .parameter) in combined (eqb (words .kind) 1) x y p ≡ poseOf i
     unfolding isLerp nodeOf nodePose
     of-inputs e ex ey =
         let blend = no-clip plan (here .state) i (r .found) e in

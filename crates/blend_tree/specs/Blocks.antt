@@ -1,6 +1,7 @@
 -- What functions over blocks of joints ask and promise: each lane of a block is the pose that model defines for one joint. Definitions only.
 use Prim.Native.Nat.{ℕ, suc, _+_, _≤_, _<_}
 use mathlib.Core.Path.{_≡_}
+use mathlib.Core.Bool.{Bool, cond}
 use mathlib.Core.List.{List}
 use lib.ListN.{length, getD}
 use lib.Ieee.{Float}
@@ -8,8 +9,8 @@ use Rattle.model.specs.declared.Pose.{Pose}
 use Rattle.model.specs.Answers.{accepted}
 use Rattle.model.specs.Plan.{jointCount, nodeCount, clipNode}
 use Rattle.model.specs.Check.{check}
-use Rattle.model.specs.Pose.{identityPose}
-use Rattle.model.specs.Tree.{nodePoses}
+use Rattle.model.specs.Pose.{identityPose, lerp}
+use Rattle.model.specs.Tree.{additive, nodePoses}
 use Rattle.layout.specs.declared.Layout.{Layout}
 use Rattle.layout.specs.Layout.{layoutOf}
 use Rattle.lanes.specs.Lanes.{blockSize, laneAt}
@@ -33,6 +34,11 @@ pub record InBlock (plan : List ℕ) (first count : ℕ) : Type 0 where
 -- slot i holds how many clip nodes of the plan come before node i of state s: its own number, if it is one
 pub record Slots (plan : List ℕ) (s : ℕ) (slots : List ℕ) : Type 0 where
   pub slot : (i : ℕ) → i < nodeCount plan s → getD slots i 0 ≡ clipNode plan s i
+
+-- ---- what a blend node makes of its inputs' poses
+
+abbrev pub combined : Bool → Pose → Pose → Float → Pose
+combined lerps a b p = cond lerps (lerp a b p) (additive a b p)
 
 -- ---- the pose of node i of a state at joint j
 

@@ -22,42 +22,32 @@ ghost use lib.ListN.{length};
 ghost use Rattle.model.specs.Pose.{lerp as lerpPose};
 ghost use Rattle.model.specs.Plan.{clipCount};
 ghost use Rattle.model.specs.Clips.{clipPose};
-ghost use Rattle.model.specs.Tree.{additive as additivePose, statePose};
+ghost use Rattle.model.specs.Tree.{statePose};
 ghost use Rattle.animation.specs.Sampling.{poseFrom};
 ghost use Rattle.layout.specs.Layout.{InPlan};
 ghost use Rattle.lanes.specs.Lanes.{blockSize, laneAt};
-ghost use Rattle.blend_tree.specs.Blocks.{Filled, Playable, InBlock, Slots, poseOfNode};
+ghost use Rattle.blend_tree.specs.Blocks.{Filled, Playable, InBlock, Slots, combined, poseOfNode};
 
-// b, weakened towards the identity, on top of a.
-fn additive(a: Pose, b: Pose, p: f32) -> Pose
-    ensures { λ r. ⌜ r ≡ additivePose a b p ⌝ }
+// What a blend node makes of its inputs' poses: a lerp from a to b, or b, weakened towards the identity, on top of a.
+fn combine(lerps: bool, a: Pose, b: Pose, p: f32) -> Pose
+    ensures { λ r. ⌜ r ≡ combined lerps a b p ⌝ }
 {
+    if lerps {
+        return lerp(a, b, p);
+    }
     concat(a, lerp(identity(), b, p))
 }
 
-// Each lane of x, blended towards y's.
-pub fn lerp_all(x: &mut [f32; 256], y: &[f32; 256], factor: f32, count: usize)
+// Each lane of x, combined with y's.
+pub fn combine_all(lerps: bool, x: &mut [f32; 256], y: &[f32; 256], factor: f32, count: usize)
     requires { ⌜ count ≤ blockSize ⌝ }
-    ensures { λ _. ⌜ Filled (λ i. lerpPose (laneAt (now (x .entry)) i) (laneAt (now (y .entry)) i) factor) count (now (x .exit)) ⌝ }
+    ensures { λ _. ⌜ Filled (λ i. combined lerps (laneAt (now (x .entry)) i) (laneAt (now (y .entry)) i) factor) count (now (x .exit)) ⌝ }
 {
     let mut i = 0;
     while i < count {
         let p = lane(x, i);
         let q = lane(y, i);
-        set_lane(x, i, lerp(p, q, factor));
-        i += 1;
-    }
-}
-
-fn additive_all(x: &mut [f32; 256], y: &[f32; 256], factor: f32, count: usize)
-    requires { ⌜ count ≤ blockSize ⌝ }
-    ensures { λ _. ⌜ Filled (λ i. additivePose (laneAt (now (x .entry)) i) (laneAt (now (y .entry)) i) factor) count (now (x .exit)) ⌝ }
-{
-    let mut i = 0;
-    while i < count {
-        let p = lane(x, i);
-        let q = lane(y, i);
-        set_lane(x, i, additive(p, q, factor));
+        set_lane(x, i, combine(lerps, p, q, factor));
         i += 1;
     }
 }
@@ -164,11 +154,7 @@ fn node_poses(
     );
     let p = words.parameter;
     let factor = parameters[p];
-    if words.kind == 1 {
-        lerp_all(block, &other, factor, count);
-    } else {
-        additive_all(block, &other, factor, count);
-    }
+    combine_all(words.kind == 1, block, &other, factor, count);
 }
 
 // The poses of a state: those of its tree's root, which is its last node.

@@ -1,5 +1,5 @@
 // Steps 2 and 3 of a frame: the state's clips are synchronised, its poses evaluated block by block, and the matrices written.
-use blend_tree::poses::lerp_all;
+use blend_tree::poses::combine_all;
 use blend_tree::poses::state_poses;
 use blend_tree::synchronize::synchronize_state;
 use float::narrow;
@@ -120,7 +120,7 @@ fn show_blend(
             count,
             &mut other,
         );
-        lerp_all(&mut block, &other, factor, count);
+        combine_all(true, &mut block, &other, factor, count);
         calculate_global_poses(plan, &block, first, count, output);
         first += count;
     }

@@ -55,7 +55,7 @@ loop-again c =
     let x = y .before .before in
     let b = x .before .before in
     let l = b .before .before .before in (
-      g .calculate-global-poses .ensures .written _ (blended _ _ _ _ _ _ _ (x .state-poses .ensures) (y .state-poses2 .ensures) (m .lerp-all .ensures)) _ (l .loop .inv .0),
+      g .calculate-global-poses .ensures .written _ (blended _ _ _ _ _ _ _ (x .state-poses .ensures) (y .state-poses2 .ensures) (m .combine-all .ensures)) _ (l .loop .inv .0),
       g .calculate-global-poses .kept .1 .1 .1 .1 .0 ∙ l .loop .inv .1,
       b .block-length .ensures .2,
     )

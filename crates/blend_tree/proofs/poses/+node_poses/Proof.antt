@@ -4,7 +4,6 @@ use borrow.Author.Needs.{needs}
 use Prim.Native.Nat.{ℕ, _+_, _<_}
 use native.Mathlib.Omega.{arith}
 use mathlib.Core.Path.{ap, _∙_}
-use borrow.Author.Tests.{eq-eqb, ne-eqb}
 use borrow.Fn.Kinds.{In}
 use borrow.Fn.PlainCycle.{Measures, is, falls, and}
 use Rattle.model.specs.Clips.{localTime, instanceAt}
@@ -13,9 +12,8 @@ use Rattle.animation.proofs.local_time.Reads as local-time-reads
 use Rattle.layout.proofs.node_at.Reads as node-at-reads
 use Rattle.blend_tree.proofs.NodeLaws.{passes, node-small, slot-found, slot-small, NodeRead, is-clip, no-clip, clip-inside, inputs-before, parameter-small}
 use Rattle.blend_tree.proofs.PoseLaws.{of-clip, of-inputs}
-use Rattle.blend_tree.proofs.poses.additive_all.Reads as additive-all-reads
 use Rattle.blend_tree.proofs.poses.clip_poses.Reads as clip-poses-reads
-use Rattle.blend_tree.proofs.poses.lerp_all.Reads as lerp-all-reads
+use Rattle.blend_tree.proofs.poses.combine_all.Reads as combine-all-reads
 use Rattle.blend_tree.proofs.poses.node_poses.Reads as reads
 use Rattle.blend_tree.proofs.poses.node_poses.Kinds as kinds
 use Rattle.blend_tree.proofs.poses.+node_poses.Lts-node_poses as lts
@@ -44,10 +42,8 @@ claims t = (
   clip-poses-reads.Learnt,
   node-poses-below t,
   reads.Post,
-  lerp-all-reads.Asked,
-  lerp-all-reads.Learnt,
-  additive-all-reads.Asked,
-  additive-all-reads.Learnt,
+  combine-all-reads.Asked,
+  combine-all-reads.Learnt,
 )
 
 module _ (t : ℕ) where
@@ -109,23 +105,12 @@ module _ (t : ℕ) where
 
   returns-2 : lts.Need-returns-2 (claims t) (node-poses-at t) reads.Post
   returns-2 c j h =
-      let i = c .before .before .before in
-      let b = i .before .before .before in
+      let b = c .before .before .before .before .before in
       let a = b .before .before in
       let k = a .before .before .before .before in
       let s = start k in
-      c .lerp-all .ensures j h
-      ∙ (rw (eq-eqb (k .node-at .result .kind) 1 (i .if2 .taken)) at (of-inputs (read k) (s .args .numbers .now) (s .args .parameters .now) (s .args .time) (s .args .instances .now) (s .args .first + j) (a .before .before .if1 .left) (a .node-poses .ensures j h) (b .node-poses2 .ensures j h)))
-
-  returns-3 : lts.Need-returns-3 (claims t) (node-poses-at t) reads.Post
-  returns-3 c j h =
-      let i = c .before .before .before in
-      let b = i .before .before .before in
-      let a = b .before .before in
-      let k = a .before .before .before .before in
-      let s = start k in
-      c .additive-all .ensures j h
-      ∙ (rw (ne-eqb (k .node-at .result .kind) 1 (i .if2 .left)) at (of-inputs (read k) (s .args .numbers .now) (s .args .parameters .now) (s .args .time) (s .args .instances .now) (s .args .first + j) (a .before .before .if1 .left) (a .node-poses .ensures j h) (b .node-poses2 .ensures j h)))
+      c .combine-all .ensures j h
+      ∙ of-inputs (read k) (s .args .numbers .now) (s .args .parameters .now) (s .args .time) (s .args .instances .now) (s .args .first + j) (a .before .before .if1 .left) (a .node-poses .ensures j h) (b .node-poses2 .ensures j h)
 
 pub +node-poses-spec : {M : Type 1} → statement M
 +node-poses-spec =
@@ -142,7 +127,5 @@ pub +node-poses-spec : {M : Type 1} → statement M
     (node-poses-requires-2 t)
     (λ c. omega (arith, parameter-known t c))
     (λ c. omega (arith, parameter-known t c))
-    (λ c κs. c .before .before .before .before .before .before .before .before .before .before .before .before .before .before .pre .1 .3 .small)
-    (λ c κs. c .before .before .before .before .before .before .before .before .before .before .before .before .before .before .pre .1 .3 .small)
-    (returns-2 t)
-    (returns-3 t))
+    (λ c κs. c .before .before .before .before .before .before .before .before .before .before .before .before .before .pre .1 .3 .small)
+    (returns-2 t))
