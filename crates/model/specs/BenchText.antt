@@ -1,17 +1,28 @@
--- Document 01, "Page matrices, text, program": its whole input prints its whole output, as a theorem over the definitions.
+-- Document 01, "Page matrices, text, program": names and a refusal as they are written, and its whole input prints its whole output. Theorems over the definitions.
 use Prim.Native.Nat.{ℕ}
 use Prim.Native.Char.{code}
 use Prim.Native.String.{String, [], _∷_}
 use mathlib.Core.Path.{_≡_, refl}
 use mathlib.Core.List.{List, [] as []ᴸ, _∷_ as _∷ᴸ_, _++_}
+use Rattle.model.specs.declared.LineKind.the-variants.{Figure, Joint, Clip, State, Node, Go, Pose}
 use Rattle.model.specs.Text.{digit, run, numeral, isField, fieldIn, name, limits, bitsCount, formOf, withField, fieldThen, lastFields, begins, lineIn, prefixed, andThen, times, fromLine, readLine, fromState, readState, readEnd, readFigure}
-use Rattle.model.specs.Program.{glyph, digits, places, decimalText, bitsText, decimalFields, bitsFields, jointLine, joined, played, printedFrom, printed}
+use Rattle.model.specs.Program.{glyph, digits, places, decimalText, bitsText, decimalFields, bitsFields, refusedLine, jointLine, joined, played, printedFrom, printed}
 use Rattle.model.specs.Laws.Opened.{all-opened}
 
 -- of ASCII text, where a character's code is its byte
 unfoldable pub bytes : String → List ℕ
 bytes [] = []ᴸ
 bytes (c ∷ s) = code c ∷ᴸ bytes s
+
+-- the names of lines, as they are written
+pub names : (name Figure ≡ bytes "figure") × (name Joint ≡ bytes "joint") × (name Clip ≡ bytes "clip") × (name State ≡ bytes "state") × (name Node ≡ bytes "node") × (name Go ≡ bytes "go") × (name Pose ≡ bytes "pose")
+unfolding name bytes
+names = (refl, refl, refl, refl, refl, refl, refl)
+
+-- a refusal, as it is written
+pub refusal-written : refusedLine 11 3 ≡ bytes "refused,11,3\n"
+unfolding refusedLine decimalFields decimalText digits places glyph bytes
+refusal-written = refl
 
 unfoldable pub exampleText : List ℕ
 exampleText =

@@ -49,7 +49,7 @@ bitsFields (v ∷ vs) = comma ∷ bitsText v ++ bitsFields vs
 
 -- ---- what the program prints
 
--- `refused,number,place`
+-- `refused,number,place`; the bytes are those of `refused`
 unfoldable pub refusedLine : ℕ → ℕ → List ℕ
 refusedLine number place = (114 ∷ 101 ∷ 102 ∷ 117 ∷ 115 ∷ 101 ∷ 100 ∷ []) ++ decimalFields (number ∷ place ∷ []) ++ lineFeed ∷ []
 

@@ -66,6 +66,7 @@ fieldIn form s = let k = run (baseOf form) s in cond (isField form k s) (field (
 abbrev pub maxWord : ℕ
 maxWord = 65535
 
+-- `figure`, `joint`, `clip`, `state`, `node`, `go`, `pose`, by their bytes
 unfoldable pub name : LineKind → List ℕ
 name Figure = 102 ∷ 105 ∷ 103 ∷ 117 ∷ 114 ∷ 101 ∷ []
 name Joint = 106 ∷ 111 ∷ 105 ∷ 110 ∷ 116 ∷ []
