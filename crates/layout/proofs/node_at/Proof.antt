@@ -16,4 +16,5 @@ pub node-at-spec : {M : Type 1} → statement M
 node-at-spec =
     tie.close
     (tie.spec (λ c. let s = c .before in omega (arith, node-words (s .pre .1) (s .pre .0) _ (s .pre .2)))
-    (λ c. search words) (λ c κs. search words) (λ c. search words) (λ c κs. search words) (λ c. search words) (λ c κs. search words) (λ c. search words) (λ c κs. search words) returns)
+    (λ c. search words) (λ c κs. search words) (λ c. search words) (λ c κs. search words)
+    (λ c. search words) (λ c κs. search words) (λ c. search words) (λ c κs. search words) returns)
