@@ -1,11 +1,14 @@
 -- Where the words and numbers of a passed plan stand, told from its layouts. Assumes nothing.
-use Prim.Native.Nat.{ℕ, _+_, _*_, _/_, _≤_, _<_}
+use borrow.Author.Needs.{needs}
+use Prim.Native.Nat.{ℕ, _+_, _*_, _/_, _^_, _≤_, _<_}
 use native.Mathlib.Nat.{add-zero}
 use native.Mathlib.Numerals.{add-one}
 use native.Mathlib.Omega.{arith}
 use mathlib.Core.Path.{_≡_, refl, ap, sym, _∙_}
 use mathlib.Core.List.{List}
 use lib.ListN.{length}
+use mir.Syntax.{w64}
+use mir.Val.{Fits}
 use Rattle.model.specs.Answers.{accepted}
 use Rattle.model.specs.Plan.{word, jointCount, clipCount, stateCount, sampleCountAt, afterNodes, afterTransitions, stateAt, nodeCount, kindAt, transitionCountAt, transitionCount, conditionParameterAt, total, clipNodesBefore, transitionsBefore, numberAt, Value, Duration}
 use Rattle.model.specs.Check.{checkState}
@@ -15,6 +18,23 @@ use Rattle.model.specs.Laws.Passed.{sample-count-there, state-passed, few-clips
 use Rattle.layout.specs.declared.Layout.{Layout}
 use Rattle.layout.specs.declared.StateLayout.{StateLayout}
 use Rattle.layout.specs.Layout.{Passes, InPlan, layoutOf, stateLayout}
+
+-- ---- groups of words
+
+-- group i of those of `size` words that begin at `at` is there
+pub record Words (plan : List ℕ) (at size i : ℕ) : Type 0 where
+  pub whole : at + size * i + size ≤ length plan
+
+module _ {plan : List ℕ} (at size i : ℕ) where
+  pub first-there : 0 < size → Words plan at size i → at + size * i < length plan
+  first-there h w = omega arith
+
+  pub word-there : (k : ℕ) → k < size → Words plan at size i → at + size * i + k < length plan
+  word-there k h w = omega arith
+
+-- and where a word is there, its place is a `usize`
+pub place-fits : (plan : List ℕ) (n : ℕ) → length plan < 2 ^ 64 → n < length plan → Fits w64 n
+place-fits plan n l h = omega arith
 
 -- ---- the layout of a plan
 
@@ -145,11 +165,14 @@ module _ {plan : List ℕ} {here : StateLayout} (inside : InPlan plan here) wher
     pub nodes-few : here .nodes ≤ 31
     nodes-few = rw nodes-counted (few-nodes plan (here .state) here-ok)
 
-    pub node-read : (i : ℕ) → i < here .nodes → here .«nodes_at» + 4 * i + 3 < length plan
-    node-read i h = omega (arith, node-found i, node-there plan (here .state) here-ok i (omega (arith, nodes-counted)))
+    pub node-words : (i : ℕ) → i < here .nodes → Words plan (here .«nodes_at») 4 i
+    node-words i h = record { whole = omega (arith, node-found i, node-there plan (here .state) here-ok i (omega (arith, nodes-counted))) }
 
-    pub condition-read : (t : ℕ) → t < here .transitions → here .«transitions_at» + 3 * t + 2 < length plan
-    condition-read t h = omega (arith, condition-found t, transition-there plan (here .state) here-ok t (omega (arith, transitions-counted)))
+    pub condition-words : (t : ℕ) → t < here .transitions → Words plan (here .«transitions_at») 3 t
+    condition-words t h = record { whole = omega (arith, condition-found t, transition-there plan (here .state) here-ok t (omega (arith, transitions-counted))) }
 
     pub value-read : (t : ℕ) → t < here .transitions → here .«values_at» + 2 * t < 1000
     value-read t h = omega (arith, values-small plan ok (here .state) (inside .below), value-found 0, transitions-counted)
+
+-- with these `search` finds that the words of a node or a transition are there
+pub ruleset words = (needs, node-words, condition-words, first-there, word-there, place-fits)

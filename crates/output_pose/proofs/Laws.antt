@@ -1,7 +1,8 @@
 -- A skeleton written block by block, and what a frame's steps 2 and 3 show in either case of the transition. Assumes nothing.
+use borrow.Author.Needs.{needs}
 use Prim.Native.Nat.{ℕ, _+_, _<_, _≤_}
 use native.Mathlib.Omega.{arith}
-use mathlib.Core.Path.{_≡_, refl}
+use mathlib.Core.Path.{_≡_, refl, _∙_}
 use mathlib.Core.Bool.{true}
 use mathlib.Core.List.{List}
 use lib.ListN.{length}
@@ -18,38 +19,55 @@ use Rattle.model.specs.Controller.{isTargetBelow, transitionFactor, currentInst
 use Rattle.model.specs.Skeleton.{jointMatrices, flat, written}
 use Rattle.layout.specs.declared.Layout.{Layout}
 use Rattle.layout.specs.declared.StateLayout.{StateLayout}
-use Rattle.layout.specs.Layout.{Passes, stateLayout}
+use Rattle.layout.specs.Layout.{stateLayout}
 use Rattle.layout.proofs.Laws.{joints-found, same-state}
 use Rattle.lanes.specs.Lanes.{blockSize, laneAt}
-use Rattle.blend_tree.specs.Blocks.{Filled, Playable, InBlock}
+use Rattle.blend_tree.specs.Blocks.{Filled, Playable}
 use Rattle.blend_tree.proofs.NodeLaws.{passes}
-use Rattle.skeleton.specs.Buffer.{jointsWritten}
+use Rattle.skeleton.specs.Buffer.{GlobalPoses, jointsWritten}
 use Rattle.output_pose.specs.Shown.{skeletonOf, Blended, Shown}
 
 -- ---- blocks
-
-module _ {plan : List ℕ} {numbers : List Float} {layout : Layout} (ok : Playable plan numbers layout) where
-  pub in-block : (first count : ℕ) → count ≤ blockSize → first + count ≤ layout .joints → InBlock plan first count
-  in-block first count small inside = record { small = small; inside = omega (arith, joints-found plan (ok .found)) }
-
-  -- and there is room for the block's matrices
-  pub room : (first count : ℕ) (new old : List Float) → count ≤ blockSize → first + count ≤ layout .joints → length new ≡ length old → outputAt (jointCount plan) ≤ length old
-      → Passes plan × (count ≤ blockSize) × (first + count ≤ jointCount plan) × (outputAt (first + count) ≤ length new)
-  room first count new old small inside e h = (passes ok, small, omega (arith, joints-found plan (ok .found)), omega (arith, joints-found plan (ok .found)))
 
 -- two blocks blended lane by lane
 pub blended : (f g : ℕ → Pose) (factor : Float) (count : ℕ) (x y z : List Float) → Filled f count x → Filled g count y
     → Filled (λ i. lerp (laneAt x i) (laneAt y i) factor) count z → Filled (λ i. lerp (f i) (g i) factor) count z
 blended f g factor count x y z hx hy hz i h = rw (hz i h, hx i h, hy i h)
 
-module _ (plan : List ℕ) (poseOf : ℕ → Pose) (old : List Float) where
-  pub none-written : old ≡ jointsWritten plan poseOf 0 old
-  unfolding jointsWritten jointMatrices tableTo flat
-  none-written = refl
+-- what a loop over blocks keeps: the matrices of the joints below `first` are written over the old output
+pub record Through (plan : List ℕ) (layout : Layout) (poseOf : ℕ → Pose) (old new : List Float) (first : ℕ) : Type 0 where
+  pub so-far : new ≡ jointsWritten plan poseOf first old
+  pub kept : length new ≡ length old
+  pub most : first ≤ layout .joints
 
-  pub all-written : (n : ℕ) (new : List Float) → n ≡ jointCount plan → new ≡ jointsWritten plan poseOf n old → new ≡ skeletonOf plan poseOf old
-  unfolding jointsWritten written
-  all-written n new e h = rw e at h
+-- the next block, as `block_length` gives it
+abbrev Next : Layout → ℕ → ℕ → Type 0
+Next layout first count = (0 < count) × (count ≤ blockSize) × (first + count ≤ layout .joints)
+
+module _ {plan : List ℕ} {layout : Layout} {poseOf : ℕ → Pose} {old : List Float} where
+  pub through-none : Through plan layout poseOf old old 0
+  unfolding jointsWritten jointMatrices tableTo flat
+  through-none = record { so-far = refl; kept = refl; most = omega arith }
+
+  module _ {new : List Float} {first : ℕ} (t : Through plan layout poseOf old new first) where
+    pub through-next : {block after : List Float} {count : ℕ} → Next layout first count → GlobalPoses plan block first count new after
+        → Filled (λ i. poseOf (first + i)) count block → length after ≡ length new → Through plan layout poseOf old after (first + count)
+    through-next n g f e = record { so-far = g .written poseOf f old (t .so-far); kept = e ∙ t .kept; most = n .2 }
+
+    pub through-all : {numbers : List Float} → Playable plan numbers layout → layout .joints ≤ first → new ≡ skeletonOf plan poseOf old
+    unfolding jointsWritten written
+    through-all ok h = let e : first ≡ jointCount plan = omega (arith, joints-found plan (ok .found)) in rw e at (t .so-far)
+
+    -- there is room for the block's matrices
+    pub through-room : {numbers : List Float} (count : ℕ) → Playable plan numbers layout → Next layout first count → outputAt (jointCount plan) ≤ length old
+        → outputAt (first + count) ≤ length new
+    through-room count ok n h = omega (arith, joints-found plan (ok .found))
+
+pub inside : {plan : List ℕ} {numbers : List Float} {layout : Layout} (first count : ℕ) → Playable plan numbers layout → Next layout first count → first + count ≤ jointCount plan
+inside {plan} first count ok n = omega (arith, joints-found plan (ok .found))
+
+-- with these `search` closes the needs of a loop that keeps `Through`
+pub ruleset through = (needs, passes, inside, through-none, through-next, through-all, through-room)
 
 -- ---- the transition
 
