@@ -5,7 +5,7 @@ use model::Quaternion;
 use model::Vector3;
 use transform::lerp;
 ghost use mathlib.Core.Path.{_≡_};
-ghost use Prim.Native.Nat.{_+_, _<_, _≤_};
+ghost use Prim.Native.Nat.{suc, _+_, _%_, _<_, _≤_};
 ghost use lib.ListN.{length};
 ghost use Rattle.model.specs.Numbers.{_/₃₂_, indexFloat};
 ghost use Rattle.model.specs.Pose.{lerp as lerpPose};
@@ -19,6 +19,15 @@ pub struct Position {
     pub factor: f32,
 }
 
+// The sample after one of n; the first comes after the last.
+fn next_sample(sample: u64, n: u64) -> u64
+    requires { ⌜ sample < n ⌝ }
+    ensures { λ r. ⌜ r ≡ suc sample % n ⌝ }
+{
+    if sample + 1 == n { 0 } else { sample + 1 }
+}
+
+// One division: the ceiling is the floor or the index after it.
 pub fn position_in(samples: usize, position: f32) -> Position
     requires { ⌜ 0 < samples ⌝ }
     ensures { λ r. ⌜ r ≡ positionIn samples position ⌝ }
@@ -26,9 +35,15 @@ pub fn position_in(samples: usize, position: f32) -> Position
     let floor = float::floor_index(position);
     let ceiling = float::ceiling_index(position);
     let n = samples as u64;
+    let first = floor % n;
+    let second = if ceiling == floor {
+        first
+    } else {
+        next_sample(first, n)
+    };
     Position {
-        first: (floor % n) as usize,
-        second: (ceiling % n) as usize,
+        first: first as usize,
+        second: second as usize,
         factor: position - float::index_to_float(floor),
     }
 }
@@ -80,7 +95,7 @@ pub fn set_instance(instances: &mut [f32; 192], n: usize, i: ClipInstance)
     instances[3 * n + 2] = i.offset;
 }
 
-fn pose_from(numbers: &[f32], at: usize) -> Pose
+pub fn pose_from(numbers: &[f32], at: usize) -> Pose
     requires { ⌜ at + 8 ≤ length (now numbers) ⌝ }
     ensures { λ r. ⌜ r ≡ poseFrom (now (numbers .entry)) at ⌝ }
 {

@@ -107,7 +107,7 @@ fn node_poses(
     here: StateLayout,
     parameters: &[f32; 32],
     instances: &[f32; 192],
-    slots: &[usize; 32],
+    slots: &[u8; 32],
     time: f32,
     first: usize,
     count: usize,
@@ -119,7 +119,7 @@ fn node_poses(
 {
     let words = node_at(plan, here, node);
     if words.kind == 0 {
-        let local = local_time(instance_at(instances, slots[node]), time);
+        let local = local_time(instance_at(instances, slots[node] as usize), time);
         clip_poses(plan, numbers, layout, words.a, local, first, count, block);
         return;
     }
@@ -165,7 +165,7 @@ pub fn state_poses(
     here: StateLayout,
     parameters: &[f32; 32],
     instances: &[f32; 192],
-    slots: &[usize; 32],
+    slots: &[u8; 32],
     time: f32,
     first: usize,
     count: usize,

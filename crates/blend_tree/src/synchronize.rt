@@ -16,20 +16,19 @@ ghost use Rattle.model.specs.Tree.{targetLength, isTouched, nodeLength, inputSy
 ghost use Rattle.layout.specs.Layout.{Passes, InPlan};
 ghost use Rattle.blend_tree.specs.Blocks.{Playable, Slots};
 
-// Which instance each clip node of a state has. A slot of another node is not read.
-fn clip_slots(plan: &[u16], here: StateLayout) -> [usize; 32]
+// Which instance each clip node of a state has. A slot of another node is not read. They are bytes in an array of the caller's, since copies of them cost more
+// than all else for a state of one node.
+fn clip_slots(plan: &[u16], here: StateLayout, slots: &mut [u8; 32])
     requires { ⌜ Passes (now plan) × InPlan (now plan) here ⌝ }
-    ensures { λ r. ⌜ Slots (now (plan .entry)) (here .state) r ⌝ }
+    ensures { λ _. ⌜ Slots (now (plan .entry)) (here .state) (now (slots .exit)) ⌝ }
 {
-    let mut slots = [0usize; 32];
     let mut next = here.clip_node;
     let mut i = 0;
     while i < here.nodes {
-        slots[i] = next;
+        slots[i] = next as u8;
         next = next_clip_node(plan, here, i, next);
         i += 1;
     }
-    slots
 }
 
 // The clip node after node i.
@@ -85,7 +84,7 @@ fn synchronize_input(
     numbers: &[f32],
     here: StateLayout,
     parameters: &[f32; 32],
-    slots: &[usize; 32],
+    slots: &[u8; 32],
     time: f32,
     i: usize,
     length: f32,
@@ -95,7 +94,7 @@ fn synchronize_input(
     requires { ⌜ Passes (now plan) × InPlan (now plan) here × Slots (now plan) (here .state) (now slots) × (i < here .nodes) × (isClip (now plan) (here .state) i ≡ true) × (length ≡ nodeLength (now plan) (now numbers) (here .state) i) ⌝ }
     ensures { λ _. ⌜ now (instances .exit) ≡ inputSynchronized (now (plan .entry)) (now (numbers .entry)) (now (parameters .entry)) time (here .state) i target (now (instances .entry)) ⌝ }
 {
-    let n = slots[i];
+    let n = slots[i] as usize;
     let instance = instance_at(instances, n);
     set_instance(
         instances,
@@ -110,7 +109,7 @@ fn synchronize_node(
     layout: Layout,
     here: StateLayout,
     parameters: &[f32; 32],
-    slots: &[usize; 32],
+    slots: &[u8; 32],
     time: f32,
     i: usize,
     instances: &mut [f32; 192],
@@ -161,7 +160,7 @@ fn synchronize(
     layout: Layout,
     here: StateLayout,
     parameters: &[f32; 32],
-    slots: &[usize; 32],
+    slots: &[u8; 32],
     time: f32,
     instances: &mut [f32; 192],
 )
@@ -193,21 +192,21 @@ pub fn synchronize_state(
     here: StateLayout,
     parameters: &[f32; 32],
     time: f32,
+    slots: &mut [u8; 32],
     instances: &mut [f32; 192],
-) -> [usize; 32]
+)
     requires { ⌜ Playable (now plan) (now numbers) layout × InPlan (now plan) here ⌝ }
-    ensures { λ r. ⌜ Slots (now (plan .entry)) (here .state) r × (now (instances .exit) ≡ synchronize (now (plan .entry)) (now (numbers .entry)) (now (parameters .entry)) time (here .state) (now (instances .entry))) ⌝ }
+    ensures { λ _. ⌜ Slots (now (plan .entry)) (here .state) (now (slots .exit)) × (now (instances .exit) ≡ synchronize (now (plan .entry)) (now (numbers .entry)) (now (parameters .entry)) time (here .state) (now (instances .entry))) ⌝ }
 {
-    let slots = clip_slots(plan, here);
+    clip_slots(plan, here, slots);
     synchronize(
         plan,
         numbers,
         layout,
         here,
         parameters,
-        &slots,
+        slots,
         time,
         instances,
     );
-    slots
 }

@@ -1,37 +1,27 @@
 // Ports controller.rs: the calls on a player. Each takes the player by value and returns it with its answer, but for `update_in_place`, which changes the
 // caller's; none asks anything of its caller.
 use blend_tree::synchronize::synchronize_state;
-use float::narrow;
-use layout::JOINT_COUNT_AT;
+use frames::FrameParts;
+use frames::refusal;
 use layout::Layout;
-use layout::StateLayout;
 use layout::state_layout;
-use layout::word;
 use model::Answer;
 use model::Outcome;
 use model::Player;
 use model::Transition;
-use output_pose::show;
 use plan::Checked;
 use plan::check;
-use skeleton::make_page_matrices;
-use skeleton::output_at;
-use transitions::step;
 ghost use mathlib.Core.Path.{_≡_};
-ghost use mathlib.Core.Bool.{true};
-ghost use Prim.Native.Nat.{_<_, _≤_};
-ghost use lib.ListN.{length, replicate};
+ghost use lib.ListN.{replicate};
 ghost use Rattle.model.specs.Numbers.{0f};
 ghost use Rattle.model.specs.Answers.{values, refused};
-ghost use Rattle.model.specs.Plan.{jointCount, stateCount, outputAt};
+ghost use Rattle.model.specs.Plan.{stateCount};
 ghost use Rattle.model.specs.Clips.{blankInstances};
-ghost use Rattle.model.specs.Controller.{blank, fresh, synchronizeStates, isTargetBelow};
-ghost use Rattle.model.specs.Skeleton.{written};
-ghost use Rattle.model.specs.Run.{FrameKind, framePlayer, frameMatrices};
+ghost use Rattle.model.specs.Controller.{blank, fresh, synchronizeStates};
+ghost use Rattle.model.specs.Run.{FrameKind};
 ghost use Rattle.model.specs.Promises.{Started, Updated, SpeedSet, ParameterSet, Framed};
-ghost use Rattle.plan.specs.Checked.{verdict};
-ghost use Rattle.layout.specs.Layout.{layoutOf, stateLayout, Passes, InPlan};
 ghost use Rattle.blend_tree.specs.Blocks.{Playable};
+ghost use Rattle.frames.specs.Parts.{outcomeOf};
 
 fn blank_instances() -> [f32; 192]
     ensures { λ r. ⌜ r ≡ blankInstances 64 ⌝ }
@@ -61,19 +51,6 @@ fn blank() -> Player
 
 // ---- start
 
-// The refusal that the check of a plan hands back.
-fn refusal(checked: Checked) -> Answer
-    ensures { λ r. ⌜ values r ≡ verdict checked ⌝ }
-{
-    match checked {
-        Checked::Passed(_) => Answer::Accepted,
-        Checked::Refused { number, place } => Answer::Refused {
-            number: number,
-            place: place,
-        },
-    }
-}
-
 // Every state once at time 0, with parameters that are all 0.
 fn synchronize_states(
     plan: &[u16],
@@ -85,10 +62,20 @@ fn synchronize_states(
     requires { ⌜ Playable (now plan) (now numbers) layout × (now parameters ≡ replicate 32 0f) ⌝ }
     ensures { λ _. ⌜ now (instances .exit) ≡ synchronizeStates (now (plan .entry)) (now (numbers .entry)) (stateCount (now (plan .entry))) (now (instances .entry)) ⌝ }
 {
+    let mut slots = [0u8; 32];
     let mut s = 0;
     while s < layout.states {
         let here = state_layout(plan, layout, s);
-        synchronize_state(plan, numbers, layout, here, parameters, 0.0, instances);
+        synchronize_state(
+            plan,
+            numbers,
+            layout,
+            here,
+            parameters,
+            0.0,
+            &mut slots,
+            instances,
+        );
         s += 1;
     }
 }
@@ -172,100 +159,47 @@ pub fn set(mut player: Player, n: usize, v: f32) -> Outcome
 
 // ---- frame and page frame
 
-fn is_target_below(n: usize, transition: Transition) -> bool
-    ensures { λ r. ⌜ r ≡ isTargetBelow n transition ⌝ }
+// The player after a frame, with its answer.
+fn outcome(player: Player, parts: FrameParts, instances: [f32; 192]) -> Outcome
+    ensures { λ r. ⌜ r ≡ outcomeOf (player .clock) (player .speed) parts (player .parameters) instances ⌝ }
 {
-    match transition {
-        Transition::Idle => true,
-        Transition::Running {
-            start: _,
-            target,
-            duration: _,
-        } => target < n,
-    }
-}
-
-// The layout of a state, which is often the one at hand.
-fn layout_of(plan: &[u16], layout: Layout, here: StateLayout, state: usize) -> StateLayout
-    requires { ⌜ Passes (now plan) × (layout ≡ layoutOf (now plan)) × InPlan (now plan) here × (state < stateCount (now plan)) ⌝ }
-    ensures { λ r. ⌜ r ≡ stateLayout (now (plan .entry)) state ⌝ }
-{
-    if state == here.state {
-        return here;
-    }
-    state_layout(plan, layout, state)
-}
-
-// Steps 1 to 3 of a frame that nothing refuses.
-fn play(
-    plan: &[u16],
-    numbers: &[f32],
-    layout: Layout,
-    player: Player,
-    ext: f64,
-    output: &mut [f32],
-) -> Player
-    requires { ⌜ Playable (now plan) (now numbers) layout × (player .state < stateCount (now plan)) × (isTargetBelow (stateCount (now plan)) (player .transition) ≡ true) × (outputAt (jointCount (now plan)) ≤ length (now output)) ⌝ }
-    ensures { λ r. ⌜ (r ≡ framePlayer (now (plan .entry)) (now (numbers .entry)) player ext) × (now (output .exit) ≡ written (now (plan .entry)) (frameMatrices (now (plan .entry)) (now (numbers .entry)) player ext FrameKind.ordinary) (now (output .entry))) ⌝ }
-{
-    let transition = player.transition;
+    let answer = parts.answer;
+    let transition = parts.transition;
     let parameters = player.parameters;
-    let mut instances = player.instances;
-    let instant = player.clock + ext;
-    let before = state_layout(plan, layout, player.state);
-    let stepped = step(plan, numbers, before, transition, &parameters, instant);
-    let next = stepped.transition;
-    let here = layout_of(plan, layout, before, stepped.state);
-    let time = narrow(player.clock + ext * player.speed);
-    show(
-        plan,
-        numbers,
-        layout,
-        here,
-        next,
-        &parameters,
-        &mut instances,
-        instant,
-        time,
-        output,
-    );
-    Player {
-        clock: player.clock,
-        speed: player.speed,
-        state: stepped.state,
-        transition: next,
-        parameters: parameters,
-        instances: instances,
+    Outcome {
+        answer: answer,
+        player: Player {
+            clock: player.clock,
+            speed: player.speed,
+            state: parts.state,
+            transition: transition,
+            parameters: parameters,
+            instances: instances,
+        },
     }
 }
 
 pub fn frame(plan: &[u16], numbers: &[f32], player: Player, ext: f64, output: &mut [f32]) -> Outcome
     ensures { λ r. ⌜ Framed FrameKind.ordinary (now (plan .entry)) (now (numbers .entry)) player ext (now (output .entry)) (now (output .exit)) r ⌝ }
 {
-    let checked = check(plan, numbers.len());
-    let Checked::Passed(layout) = checked else {
-        return Outcome {
-            answer: refusal(checked),
-            player: player,
-        };
-    };
-    if player.state >= layout.states {
-        return refused(9, player);
-    }
     let transition = player.transition;
-    if !is_target_below(layout.states, transition) {
-        return refused(9, player);
-    }
-    if output.len() < output_at(layout.joints) {
-        return refused(10, player);
-    }
-    Outcome {
-        answer: Answer::Accepted,
-        player: play(plan, numbers, layout, player, ext, output),
-    }
+    let parameters = player.parameters;
+    let mut instances = player.instances;
+    let parts = frames::frame(
+        plan,
+        numbers,
+        player.clock,
+        player.speed,
+        player.state,
+        transition,
+        &parameters,
+        &mut instances,
+        ext,
+        output,
+    );
+    outcome(player, parts, instances)
 }
 
-// A frame, and then each matrix's upper 3×3 transposed.
 pub fn page_frame(
     plan: &[u16],
     numbers: &[f32],
@@ -275,11 +209,20 @@ pub fn page_frame(
 ) -> Outcome
     ensures { λ r. ⌜ Framed FrameKind.page (now (plan .entry)) (now (numbers .entry)) player ext (now (output .entry)) (now (output .exit)) r ⌝ }
 {
-    let outcome = frame(plan, numbers, player, ext, output);
-    let answer = outcome.answer;
-    let Answer::Accepted = answer else {
-        return outcome;
-    };
-    make_page_matrices(word(plan, JOINT_COUNT_AT), output);
-    outcome
+    let transition = player.transition;
+    let parameters = player.parameters;
+    let mut instances = player.instances;
+    let parts = frames::page_frame(
+        plan,
+        numbers,
+        player.clock,
+        player.speed,
+        player.state,
+        transition,
+        &parameters,
+        &mut instances,
+        ext,
+        output,
+    );
+    outcome(player, parts, instances)
 }

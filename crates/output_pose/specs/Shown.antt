@@ -16,6 +16,15 @@ use Rattle.model.specs.Skeleton.{jointMatrices, written}
 abbrev pub skeletonOf : List ℕ → (ℕ → Pose) → List Float → List Float
 skeletonOf plan poseOf old = written plan (jointMatrices plan poseOf (jointCount plan)) old
 
+-- the output shows a state that reads no parameter
+pub record JointShown (plan : List ℕ) (numbers : List Float) (time : Float) (state : ℕ) (instances old new : List Float) : Type 0 where
+  pub output : (parameters : List Float) → new ≡ skeletonOf plan (statePose plan numbers parameters time state instances) old
+
+-- a state by itself is synchronised, and the output shows it
+pub record StateShown (plan : List ℕ) (numbers : List Float) (time : Float) (state : ℕ) (parameters before after old new : List Float) : Type 0 where
+  pub instances : after ≡ synchronize plan numbers parameters time state before
+  pub output : new ≡ skeletonOf plan (statePose plan numbers parameters time state after) old
+
 -- a state on its way to another by a factor: the other is synchronised on top of `before`, and the output shows both, blended
 pub record Blended (plan : List ℕ) (numbers : List Float) (time factor : Float) (state target : ℕ) (parameters before after old new : List Float) : Type 0 where
   pub instances : after ≡ synchronize plan numbers parameters time target before

@@ -1,4 +1,8 @@
 // Steps 2 and 3 of a frame: the state's clips are synchronised, its poses evaluated block by block, and the matrices written.
+use animation::instance_at;
+use animation::local_time;
+use animation::pose_from;
+use animation::position_in;
 use blend_tree::poses::combine_all;
 use blend_tree::poses::state_poses;
 use blend_tree::synchronize::synchronize_state;
@@ -6,9 +10,16 @@ use float::narrow;
 use float::widen;
 use layout::Layout;
 use layout::StateLayout;
+use layout::node_at;
+use layout::pose_at;
+use layout::rate;
+use layout::sample_count;
+use layout::samples_before;
 use layout::state_layout;
 use model::Transition;
 use skeleton::calculate_global_poses;
+use skeleton::calculate_root_pose;
+use transform::lerp;
 ghost use mathlib.Core.Path.{_≡_};
 ghost use mathlib.Core.Bool.{true};
 ghost use Prim.Native.Nat.{_+_, _<_, _≤_};
@@ -20,7 +31,7 @@ ghost use Rattle.model.specs.Controller.{isTargetBelow, transitionFactor};
 ghost use Rattle.layout.specs.Layout.{InPlan};
 ghost use Rattle.lanes.specs.Lanes.{blockSize};
 ghost use Rattle.blend_tree.specs.Blocks.{Playable, InBlock, Slots};
-ghost use Rattle.output_pose.specs.Shown.{skeletonOf, Blended, Shown};
+ghost use Rattle.output_pose.specs.Shown.{skeletonOf, JointShown, StateShown, Blended, Shown};
 
 // How many of the joints from `first` on make up the next block.
 fn block_length(joints: usize, first: usize) -> usize
@@ -40,7 +51,7 @@ fn show_state(
     layout: Layout,
     here: StateLayout,
     parameters: &[f32; 32],
-    slots: &[usize; 32],
+    slots: &[u8; 32],
     instances: &[f32; 192],
     time: f32,
     output: &mut [f32],
@@ -78,8 +89,8 @@ fn show_blend(
     here: StateLayout,
     there: StateLayout,
     parameters: &[f32; 32],
-    here_slots: &[usize; 32],
-    there_slots: &[usize; 32],
+    here_slots: &[u8; 32],
+    there_slots: &[u8; 32],
     here_instances: &[f32; 192],
     there_instances: &[f32; 192],
     time: f32,
@@ -140,7 +151,7 @@ fn show_transition(
     here: StateLayout,
     target: usize,
     parameters: &[f32; 32],
-    slots: &[usize; 32],
+    slots: &[u8; 32],
     instances: &mut [f32; 192],
     time: f32,
     factor: f32,
@@ -151,7 +162,17 @@ fn show_transition(
 {
     let current = *instances;
     let there = state_layout(plan, layout, target);
-    let there_slots = synchronize_state(plan, numbers, layout, there, parameters, time, instances);
+    let mut there_slots = [0u8; 32];
+    synchronize_state(
+        plan,
+        numbers,
+        layout,
+        there,
+        parameters,
+        time,
+        &mut there_slots,
+        instances,
+    );
     show_blend(
         plan,
         numbers,
@@ -165,6 +186,75 @@ fn show_transition(
         instances,
         time,
         factor,
+        output,
+    );
+}
+
+// A figure of one joint in a state of one clip, which needs no block.
+fn show_joint(
+    plan: &[u16],
+    numbers: &[f32],
+    layout: Layout,
+    here: StateLayout,
+    instances: &[f32; 192],
+    time: f32,
+    output: &mut [f32],
+)
+    requires { ⌜ Playable (now plan) (now numbers) layout × InPlan (now plan) here × (layout .joints ≡ 1) × (here .nodes ≡ 1) × (outputAt (jointCount (now plan)) ≤ length (now output)) ⌝ }
+    ensures { λ _. ⌜ JointShown (now (plan .entry)) (now (numbers .entry)) time (here .state) (now (instances .entry)) (now (output .entry)) (now (output .exit)) ⌝ }
+{
+    let clip = node_at(plan, here, 0).a;
+    let local = local_time(instance_at(instances, here.clip_node), time);
+    let position = position_in(
+        sample_count(plan, layout, clip),
+        local * rate(plan, numbers, clip),
+    );
+    let before = samples_before(plan, layout.joints, clip);
+    let low = pose_from(numbers, pose_at(layout, before + position.first, 0));
+    let high = pose_from(numbers, pose_at(layout, before + position.second, 0));
+    calculate_root_pose(lerp(low, high, position.factor), output);
+}
+
+// The state of an idle player. One clip by itself is not synchronised.
+fn show_idle(
+    plan: &[u16],
+    numbers: &[f32],
+    layout: Layout,
+    here: StateLayout,
+    parameters: &[f32; 32],
+    instances: &mut [f32; 192],
+    time: f32,
+    output: &mut [f32],
+)
+    requires { ⌜ Playable (now plan) (now numbers) layout × InPlan (now plan) here × (outputAt (jointCount (now plan)) ≤ length (now output)) ⌝ }
+    ensures { λ _. ⌜ StateShown (now (plan .entry)) (now (numbers .entry)) time (here .state) (now (parameters .entry)) (now (instances .entry)) (now (instances .exit)) (now (output .entry)) (now (output .exit)) ⌝ }
+{
+    if layout.joints == 1 {
+        if here.nodes == 1 {
+            show_joint(plan, numbers, layout, here, instances, time, output);
+            return;
+        }
+    }
+    let mut slots = [0u8; 32];
+    synchronize_state(
+        plan,
+        numbers,
+        layout,
+        here,
+        parameters,
+        time,
+        &mut slots,
+        instances,
+    );
+    show_state(
+        plan,
+        numbers,
+        layout,
+        here,
+        parameters,
+        &slots,
+        instances,
+        time,
         output,
     );
 }
@@ -185,26 +275,35 @@ pub fn show(
     requires { ⌜ Playable (now plan) (now numbers) layout × InPlan (now plan) here × (isTargetBelow (stateCount (now plan)) transition ≡ true) × (outputAt (jointCount (now plan)) ≤ length (now output)) ⌝ }
     ensures { λ _. ⌜ Shown (now (plan .entry)) (now (numbers .entry)) time instant (here .state) transition (now (parameters .entry)) (now (instances .entry)) (now (instances .exit)) (now (output .entry)) (now (output .exit)) ⌝ }
 {
-    let slots = synchronize_state(plan, numbers, layout, here, parameters, time, instances);
     let Transition::Running {
         start,
         target,
         duration,
     } = transition
     else {
-        show_state(
+        show_idle(
             plan,
             numbers,
             layout,
             here,
             parameters,
-            &slots,
             instances,
             time,
             output,
         );
         return;
     };
+    let mut slots = [0u8; 32];
+    synchronize_state(
+        plan,
+        numbers,
+        layout,
+        here,
+        parameters,
+        time,
+        &mut slots,
+        instances,
+    );
     let factor = transition_factor(instant, start, duration);
     show_transition(
         plan,

@@ -1,6 +1,7 @@
 // Ports skeleton.rs: the joints' global matrices, written into the caller's buffer; and page matrices.
 use lanes::lane;
 use layout::parent;
+use math::product_row;
 use math::row_mat4_mul;
 use model::Matrix4;
 use model::Pose;
@@ -115,6 +116,19 @@ fn parent_matrix(plan: &[u16], buffer: &[f32], j: usize) -> Matrix4
         return identity_matrix();
     }
     matrix_at(buffer, output_at(p))
+}
+
+// The matrix of the first joint, which is a root. Row by row: a product of whole matrices in a second place would no longer be inlined in either.
+pub fn calculate_root_pose(pose: Pose, output: &mut [f32])
+    requires { ⌜ outputAt 1 ≤ length (now output) ⌝ }
+    ensures { λ _. ⌜ now (output .exit) ≡ stored (now (output .entry)) 0 (floats (product identityMatrix (toMatrix pose))) ⌝ }
+{
+    let base = identity_matrix();
+    let own = to_matrix(pose);
+    set_row(output, 0, product_row(base.r0, own));
+    set_row(output, 4, product_row(base.r1, own));
+    set_row(output, 8, product_row(base.r2, own));
+    set_row(output, 12, product_row(base.r3, own));
 }
 
 // The matrices of the `count` joints from `first` on, whose poses are the block's lanes.
