@@ -6,6 +6,7 @@ ghost use lib.ListN.{drop, length};
 ghost use Rattle.model.specs.Text.{digit, run, numeral, fieldIn};
 ghost use Rattle.model.specs.declared.FieldForm.the-variants as FieldForm;
 ghost use Rattle.fields.specs.Found.{found};
+ghost use Rattle.fields.specs.Wide.{wideBitsIn};
 
 // A field's number and the place behind its last digit.
 pub enum Field {
@@ -91,6 +92,22 @@ fn bits_at(text: &[u8], at: usize) -> Field
     }
     let value = numeral(text, at, end, 16, 0xffff_ffff);
     Field::Value { value, end }
+}
+
+// The bits of a 64-bit float: two halves of eight digits, each of which fits 32 bits.
+pub fn read_wide_bits(text: &[u8], at: usize) -> Field
+    ensures { λ r. ⌜ found (now (text .entry)) r ≡ wideBitsIn (drop at (now (text .entry))) ⌝ }
+{
+    let end = run_end(text, at, 16);
+    if end - at != 16 {
+        return Field::Nothing;
+    }
+    let high = numeral(text, at, at + 8, 16, 0xffff_ffff);
+    let low = numeral(text, at + 8, end, 16, 0xffff_ffff);
+    Field::Value {
+        value: high * 0x1_0000_0000 + low,
+        end,
+    }
 }
 
 fn field_at(text: &[u8], at: usize, form: FieldForm) -> Field

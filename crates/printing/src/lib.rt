@@ -1,4 +1,4 @@
-// What the program prints, written into a slice of bytes: a refusal, or a line for each joint.
+// What programs print, put into a slice of bytes from a place on: fields, a refusal, a line for each joint. Each function returns the place behind what it put.
 use float::f32_to_bits;
 ghost use mathlib.Core.Path.{_≡_};
 ghost use mathlib.Core.List.{[], _∷_};
@@ -6,7 +6,7 @@ ghost use Prim.Native.Nat.{_+_, _*_, _<_, _≤_};
 ghost use lib.ListN.{length, take, drop};
 ghost use lib.Seq.{sets};
 ghost use lib.Ieee.{binary32, toBits};
-ghost use Rattle.model.specs.Text.{comma, overwritten};
+ghost use Rattle.model.specs.Text.{comma};
 ghost use Rattle.model.specs.Program.{glyph, digits, places, decimalFields, refusedLine, jointLine, joined};
 ghost use Rattle.printing.specs.Written.{Written, floatFields};
 
@@ -44,7 +44,7 @@ fn places(n: usize) -> usize
     k
 }
 
-fn put_bytes(out: &mut [u8], at: usize, bytes: &[u8]) -> usize
+pub fn put_bytes(out: &mut [u8], at: usize, bytes: &[u8]) -> usize
     requires { ⌜ at + length (now bytes) ≤ length (now out) ⌝ }
     ensures { λ r. ⌜ Written (now (out .entry)) at (now (bytes .entry)) (now (out .exit)) r ⌝ }
 {
@@ -57,7 +57,7 @@ fn put_bytes(out: &mut [u8], at: usize, bytes: &[u8]) -> usize
 }
 
 // A comma, and the last `count` digits of n.
-fn put_field(out: &mut [u8], at: usize, base: usize, count: usize, n: usize) -> usize
+pub fn put_field(out: &mut [u8], at: usize, base: usize, count: usize, n: usize) -> usize
     requires { ⌜ (2 ≤ base) × (base ≤ 16) × (at + 1 + count ≤ length (now out)) ⌝ }
     ensures { λ r. ⌜ Written (now (out .entry)) at (comma ∷ digits base count n) (now (out .exit)) r ⌝ }
 {
@@ -66,7 +66,7 @@ fn put_field(out: &mut [u8], at: usize, base: usize, count: usize, n: usize) -> 
     at + 1 + count
 }
 
-fn put_decimal(out: &mut [u8], at: usize, n: usize) -> usize
+pub fn put_decimal(out: &mut [u8], at: usize, n: usize) -> usize
     requires { ⌜ at + 21 ≤ length (now out) ⌝ }
     ensures { λ r. ⌜ Written (now (out .entry)) at (decimalFields (n ∷ [])) (now (out .exit)) r × (r ≤ at + 21) ⌝ }
 {
@@ -79,6 +79,14 @@ fn bits(x: f32) -> usize
     f32_to_bits(x) as usize
 }
 
+// A comma, and the bits of x.
+pub fn put_bits(out: &mut [u8], at: usize, x: f32) -> usize
+    requires { ⌜ at + 9 ≤ length (now out) ⌝ }
+    ensures { λ r. ⌜ Written (now (out .entry)) at (floatFields (x ∷ [])) (now (out .exit)) r × (r ≡ at + 9) ⌝ }
+{
+    put_field(out, at, 16, 8, bits(x))
+}
+
 // The bits of 16 floats from `from` on.
 fn put_floats(out: &mut [u8], at: usize, floats: &[f32], from: usize) -> usize
     requires { ⌜ (at + 144 ≤ length (now out)) × (from + 16 ≤ length (now floats)) ⌝ }
@@ -87,18 +95,18 @@ fn put_floats(out: &mut [u8], at: usize, floats: &[f32], from: usize) -> usize
     let mut behind = at;
     let mut k = 0;
     while k < 16 {
-        behind = put_field(out, behind, 16, 8, bits(floats[from + k]));
+        behind = put_bits(out, behind, floats[from + k]);
         k += 1;
     }
     behind
 }
 
-pub fn put_refusal(out: &mut [u8], number: usize, place: usize) -> usize
-    requires { ⌜ 50 ≤ length (now out) ⌝ }
-    ensures { λ r. ⌜ (r ≡ length (refusedLine number place)) × (now (out .exit) ≡ overwritten (refusedLine number place) (now (out .entry))) ⌝ }
+pub fn put_refusal(out: &mut [u8], at: usize, number: usize, place: usize) -> usize
+    requires { ⌜ at + 50 ≤ length (now out) ⌝ }
+    ensures { λ r. ⌜ Written (now (out .entry)) at (refusedLine number place) (now (out .exit)) r × (r ≤ at + 50) ⌝ }
 {
-    let at = put_bytes(out, 0, b"refused");
-    let behind_number = put_decimal(out, at, number);
+    let behind_name = put_bytes(out, at, b"refused");
+    let behind_number = put_decimal(out, behind_name, number);
     let behind_place = put_decimal(out, behind_number, place);
     out[behind_place] = b'\n';
     behind_place + 1
@@ -116,15 +124,16 @@ fn put_joint(out: &mut [u8], at: usize, j: usize, floats: &[f32]) -> usize
     behind_floats + 1
 }
 
-pub fn put_joints(out: &mut [u8], count: usize, floats: &[f32]) -> usize
-    requires { ⌜ (count ≤ 64) × (153 * count ≤ length (now out)) × (16 * count ≤ length (now floats)) ⌝ }
-    ensures { λ r. ⌜ (r ≡ length (joined count (λ j. jointLine j (take 16 (drop (16 * j) (now (floats .entry))))))) × (now (out .exit) ≡ overwritten (joined count (λ j. jointLine j (take 16 (drop (16 * j) (now (floats .entry)))))) (now (out .entry))) ⌝ }
+// The lines of `count` joints, each of at most 153 bytes.
+pub fn put_joints(out: &mut [u8], at: usize, count: usize, floats: &[f32]) -> usize
+    requires { ⌜ (count ≤ 64) × (at + 153 * count ≤ length (now out)) × (16 * count ≤ length (now floats)) ⌝ }
+    ensures { λ r. ⌜ Written (now (out .entry)) at (joined count (λ j. jointLine j (take 16 (drop (16 * j) (now (floats .entry)))))) (now (out .exit)) r × (r ≤ at + 153 * count) ⌝ }
 {
-    let mut at = 0;
+    let mut behind = at;
     let mut j = 0;
     while j < count {
-        at = put_joint(out, at, j, floats);
+        behind = put_joint(out, behind, j, floats);
         j += 1;
     }
-    at
+    behind
 }

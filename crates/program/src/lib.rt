@@ -24,7 +24,7 @@ fn show(plan: &[u16], numbers: &[f32], player: Player, out: &mut [u8]) -> usize
 {
     let mut floats = [0.0f32; 1024];
     frame(plan, numbers, player, 0.0, &mut floats);
-    put_joints(out, word(plan, JOINT_COUNT_AT), &floats)
+    put_joints(out, 0, word(plan, JOINT_COUNT_AT), &floats)
 }
 
 fn play(plan: &[u16], numbers: &[f32], out: &mut [u8]) -> usize
@@ -34,7 +34,7 @@ fn play(plan: &[u16], numbers: &[f32], out: &mut [u8]) -> usize
     let begun = start(plan, numbers);
     let started = begun.answer;
     match started {
-        Answer::Refused { number, place } => put_refusal(out, number, place),
+        Answer::Refused { number, place } => put_refusal(out, 0, number, place),
         Answer::Accepted => {
             let player = begun.player;
             show(plan, numbers, player, out)
@@ -51,7 +51,7 @@ fn read_and_play(text: &[u8], out: &mut [u8]) -> usize
     let mut numbers = [0.0f32; 7281];
     let read = text::read(text, &mut plan, &mut numbers);
     match read {
-        TextAnswer::Refused { number, place } => put_refusal(out, number, place),
+        TextAnswer::Refused { number, place } => put_refusal(out, 0, number, place),
         TextAnswer::Accepted {
             words,
             numbers: count,
@@ -65,7 +65,7 @@ pub fn answer(text: &[u8], out: &mut [u8; 9792]) -> usize
     ensures { λ r. ⌜ take r (now (out .exit)) ≡ printed (now (text .entry)) ⌝ }
 {
     if text.len() > 65536 {
-        return put_refusal(out, 13, 65536);
+        return put_refusal(out, 0, 13, 65536);
     }
     read_and_play(text, out)
 }

@@ -1,0 +1,91 @@
+-- A list of calls as text: `update,D` `speed,D` `set,N,F` `frame,D,L` `page,D,L`, a call a line. Definitions only.
+-- D and F are float bits of 64 and 32 bits, N and L decimals; L is the output's length.
+use Prim.Native.Nat.{ℕ, zero, suc, _+_}
+use mathlib.Core.Bool.{cond}
+use mathlib.Core.List.{List, [], _∷_}
+use lib.ListN.{length, drop}
+use lib.Dec.{eqb}
+use lib.Ieee.{Float, binary32, binary64, ofBits}
+use Rattle.model.specs.declared.FieldForm.the-variants.{Decimal, Bits}
+use Rattle.model.specs.Text.{front, lineFeed, comma, maxWord, Field, none, field, fieldIn, begins}
+use Rattle.model.specs.Run.{Call, Update, Speed, Set, Frame, FrameKind, ordinary, page}
+use Rattle.fields.specs.Wide.{wideBitsIn}
+
+-- ---- a line
+
+-- `update`, `speed`, `set`, `frame`, `page`, by their bytes
+abbrev pub updateName speedName setName frameName pageName : List ℕ
+updateName = 117 ∷ 112 ∷ 100 ∷ 97 ∷ 116 ∷ 101 ∷ []
+speedName = 115 ∷ 112 ∷ 101 ∷ 101 ∷ 100 ∷ []
+setName = 115 ∷ 101 ∷ 116 ∷ []
+frameName = 102 ∷ 114 ∷ 97 ∷ 109 ∷ 101 ∷ []
+pageName = 112 ∷ 97 ∷ 103 ∷ 101 ∷ []
+
+pub data CallLine : Type 0 where
+  malformed : CallLine
+  line : (call : Call) (rest : List ℕ) → CallLine
+
+-- a comma, and a field behind it
+unfoldable pub behindComma : (List ℕ → Field) → List ℕ → Field
+behindComma read s = cond (eqb (front s) comma) (read (drop 1 s)) none
+
+unfoldable pub fieldThen : Field → (ℕ → List ℕ → CallLine) → CallLine
+fieldThen none more = malformed
+fieldThen (field v rest) more = more v rest
+
+-- D, F, and N or L
+abbrev pub wideField bitsField decimalField : List ℕ → Field
+wideField s = behindComma wideBitsIn s
+bitsField s = behindComma (fieldIn Bits) s
+decimalField s = behindComma (fieldIn (Decimal maxWord)) s
+
+-- the line's end
+unfoldable pub lineEnd : Call → List ℕ → CallLine
+lineEnd call s = cond (eqb (front s) lineFeed) (line call (drop 1 s)) malformed
+
+-- behind the names of lines
+unfoldable pub updateLine speedLine setLine : List ℕ → CallLine
+updateLine s = fieldThen (wideField s) (λ d rest. lineEnd (Update (ofBits binary64 d)) rest)
+speedLine s = fieldThen (wideField s) (λ d rest. lineEnd (Speed (ofBits binary64 d)) rest)
+setLine s = fieldThen (decimalField s) (λ n rest. fieldThen (bitsField rest) (λ v. lineEnd (Set n (ofBits binary32 v))))
+
+unfoldable pub frameLine : FrameKind → List ℕ → CallLine
+frameLine kind s = fieldThen (wideField s) (λ d rest. fieldThen (decimalField rest) (λ n. lineEnd (Frame kind (ofBits binary64 d) n)))
+
+unfoldable pub callIn : List ℕ → CallLine
+callIn s =
+    cond (begins updateName s) (updateLine (drop (length updateName) s))
+    (cond (begins speedName s) (speedLine (drop (length speedName) s))
+    (cond (begins setName s) (setLine (drop (length setName) s))
+    (cond (begins frameName s) (frameLine ordinary (drop (length frameName) s))
+    (cond (begins pageName s) (frameLine page (drop (length pageName) s))
+    malformed))))
+
+-- ---- a list
+
+-- the calls, or the first malformed line, counted from 1
+pub data CallList : Type 0 where
+  badLine : ℕ → CallList
+  calls : List Call → CallList
+
+unfoldable pub withCall : Call → CallList → CallList
+withCall c (badLine m) = badLine (suc m)
+withCall c (calls cs) = calls (c ∷ cs)
+
+unfoldable pub lineThen : CallLine → (List ℕ → CallList) → CallList
+lineThen malformed more = badLine 1
+lineThen (line c rest) more = withCall c (more rest)
+
+-- n lines, and then the end of the text
+unfoldable pub readCalls : ℕ → List ℕ → CallList
+readCalls zero s = cond (eqb (length s) 0) (calls []) (badLine 1)
+readCalls (suc n) s = lineThen (callIn s) (readCalls n)
+
+-- how many lines are ended
+unfoldable pub lineCount : List ℕ → ℕ
+lineCount [] = 0
+lineCount (b ∷ s) = cond (eqb b lineFeed) 1 0 + lineCount s
+
+-- a whole text. A last line without LF is left over, and malformed
+unfoldable pub callList : List ℕ → CallList
+callList text = readCalls (lineCount text) text

@@ -1,0 +1,43 @@
+-- What the reader's struct and enum say of a text. Definitions only.
+use Prim.Native.Nat.{ℕ}
+use mathlib.Core.Bool.{Bool, true, false, cond}
+use mathlib.Core.List.{List}
+use lib.ListN.{drop}
+use lib.Dec.{eqb}
+use Rattle.model.specs.Text.{front, lineFeed}
+use Rattle.model.specs.Run as Run
+use Rattle.model.specs.Run.{FrameKind, ordinary, page}
+use Rattle.calls.specs.declared.Call.{Call}
+use Rattle.calls.specs.declared.Call.the-variants.{Malformed, Update, Speed, Set, Frame}
+use Rattle.calls.specs.declared.CallAt.{CallAt}
+use Rattle.calls.specs.CallText.{CallLine, malformed, line, CallList, badLine, calls}
+
+-- the kind of frame that a line asks for
+abbrev pub kindOf : Bool → FrameKind
+kindOf isPage = cond isPage page ordinary
+
+unfoldable pub lineOf : Call → List ℕ → CallLine
+lineOf Malformed rest = malformed
+lineOf (Update delta) rest = line (Run.Update delta) rest
+lineOf (Speed value) rest = line (Run.Speed value) rest
+lineOf (Set parameter value) rest = line (Run.Set parameter value) rest
+lineOf (Frame isPage ext length) rest = line (Run.Frame (kindOf isPage) ext length) rest
+
+-- `call`, if the line ends here
+unfoldable pub lineEndOf : Call → List ℕ → CallLine
+lineEndOf call s = cond (eqb (front s) lineFeed) (lineOf call (drop 1 s)) malformed
+
+abbrev pub isMalformed : Call → Bool
+isMalformed Malformed = true
+isMalformed (Update delta) = false
+isMalformed (Speed value) = false
+isMalformed (Set parameter value) = false
+isMalformed (Frame isPage ext length) = false
+
+unfoldable pub lineRead : List ℕ → CallAt → CallLine
+lineRead text r = lineOf (r .call) (drop (r .end) text)
+
+-- the number of the first malformed line; 0 where there is none
+unfoldable pub firstMalformed : CallList → ℕ
+firstMalformed (badLine n) = n
+firstMalformed (calls cs) = 0

@@ -1,0 +1,279 @@
+// Lists of calls as text, a call a line.
+use fields::Field;
+use fields::read_field;
+use fields::read_wide_bits;
+use float::f32_from_bits;
+use float::f64_from_bits;
+use model::FieldForm;
+ghost use mathlib.Core.Path.{_≡_};
+ghost use Prim.Native.Nat.{_≤_};
+ghost use lib.ListN.{length, drop, getD};
+ghost use Rattle.model.specs.Text.{begins};
+ghost use Rattle.fields.specs.Found.{found};
+ghost use Rattle.calls.specs.CallText.{wideField, bitsField, decimalField, updateLine, speedLine, setLine, frameLine, callIn, readCalls, lineCount, callList};
+ghost use Rattle.calls.specs.Read.{kindOf, isMalformed, lineEndOf, lineRead, firstMalformed};
+ghost use Rattle.calls.specs.declared.Call.the-variants as Call;
+
+// What a line asks for. A frame has its ext and the output's length.
+pub enum Call {
+    Malformed,
+    Update {
+        delta: f64,
+    },
+    Speed {
+        value: f64,
+    },
+    Set {
+        parameter: usize,
+        value: f32,
+    },
+    Frame {
+        is_page: bool,
+        ext: f64,
+        length: usize,
+    },
+}
+
+// A call and the place behind its line.
+pub struct CallAt {
+    pub call: Call,
+    pub end: usize,
+}
+
+// How many lines a list has, and the number of its first malformed one, 0 if there is none.
+pub struct ListChecked {
+    pub lines: usize,
+    pub malformed: usize,
+}
+
+fn byte(text: &[u8], at: usize) -> u8
+    ensures { λ r. ⌜ r ≡ getD (now (text .entry)) at 0 ⌝ }
+{
+    if at < text.len() { text[at] } else { 0 }
+}
+
+fn begins(text: &[u8], at: usize, name: &[u8]) -> bool
+    ensures { λ r. ⌜ r ≡ begins (now (name .entry)) (drop at (now (text .entry))) ⌝ }
+{
+    let mut i = 0;
+    while i < name.len() {
+        if byte(text, at + i) != name[i] {
+            return false;
+        }
+        i += 1;
+    }
+    true
+}
+
+// ---- fields, each behind a comma
+
+fn wide_field(text: &[u8], at: usize) -> Field
+    ensures { λ r. ⌜ found (now (text .entry)) r ≡ wideField (drop at (now (text .entry))) ⌝ }
+{
+    if byte(text, at) != b',' {
+        return Field::Nothing;
+    }
+    read_wide_bits(text, at + 1)
+}
+
+fn bits_field(text: &[u8], at: usize) -> Field
+    ensures { λ r. ⌜ found (now (text .entry)) r ≡ bitsField (drop at (now (text .entry))) ⌝ }
+{
+    if byte(text, at) != b',' {
+        return Field::Nothing;
+    }
+    read_field(text, at + 1, FieldForm::Bits)
+}
+
+fn decimal_field(text: &[u8], at: usize) -> Field
+    ensures { λ r. ⌜ found (now (text .entry)) r ≡ decimalField (drop at (now (text .entry))) ⌝ }
+{
+    if byte(text, at) != b',' {
+        return Field::Nothing;
+    }
+    read_field(text, at + 1, FieldForm::Decimal { limit: 65535 })
+}
+
+// ---- lines, from behind their names on
+
+fn is_malformed(call: Call) -> bool
+    ensures { λ r. ⌜ r ≡ isMalformed call ⌝ }
+{
+    match call {
+        Call::Malformed => true,
+        Call::Update { delta: _ } => false,
+        Call::Speed { value: _ } => false,
+        Call::Set {
+            parameter: _,
+            value: _,
+        } => false,
+        Call::Frame {
+            is_page: _,
+            ext: _,
+            length: _,
+        } => false,
+    }
+}
+
+fn malformed() -> CallAt
+    ensures { λ r. ⌜ r .call ≡ Call.Malformed ⌝ }
+{
+    CallAt {
+        call: Call::Malformed,
+        end: 0,
+    }
+}
+
+// A call, if its line ends at `at`.
+fn line_end(text: &[u8], at: usize, call: Call) -> CallAt
+    ensures { λ r. ⌜ lineRead (now (text .entry)) r ≡ lineEndOf call (drop at (now (text .entry))) ⌝ }
+{
+    if byte(text, at) != b'\n' {
+        return malformed();
+    }
+    CallAt {
+        call: call,
+        end: at + 1,
+    }
+}
+
+fn update_line(text: &[u8], at: usize) -> CallAt
+    ensures { λ r. ⌜ lineRead (now (text .entry)) r ≡ updateLine (drop at (now (text .entry))) ⌝ }
+{
+    let delta = wide_field(text, at);
+    let Field::Value { value, end } = delta else {
+        return malformed();
+    };
+    let call = Call::Update {
+        delta: f64_from_bits(value as u64),
+    };
+    line_end(text, end, call)
+}
+
+fn speed_line(text: &[u8], at: usize) -> CallAt
+    ensures { λ r. ⌜ lineRead (now (text .entry)) r ≡ speedLine (drop at (now (text .entry))) ⌝ }
+{
+    let speed = wide_field(text, at);
+    let Field::Value { value, end } = speed else {
+        return malformed();
+    };
+    let call = Call::Speed {
+        value: f64_from_bits(value as u64),
+    };
+    line_end(text, end, call)
+}
+
+fn set_line(text: &[u8], at: usize) -> CallAt
+    ensures { λ r. ⌜ lineRead (now (text .entry)) r ≡ setLine (drop at (now (text .entry))) ⌝ }
+{
+    let number = decimal_field(text, at);
+    let Field::Value { value, end } = number else {
+        return malformed();
+    };
+    let bits = bits_field(text, end);
+    let Field::Value {
+        value: set,
+        end: behind,
+    } = bits
+    else {
+        return malformed();
+    };
+    let call = Call::Set {
+        parameter: value,
+        value: f32_from_bits(set as u32),
+    };
+    line_end(text, behind, call)
+}
+
+fn frame_line(text: &[u8], at: usize, is_page: bool) -> CallAt
+    ensures { λ r. ⌜ lineRead (now (text .entry)) r ≡ frameLine (kindOf «is_page») (drop at (now (text .entry))) ⌝ }
+{
+    let ext = wide_field(text, at);
+    let Field::Value { value, end } = ext else {
+        return malformed();
+    };
+    let length = decimal_field(text, end);
+    let Field::Value {
+        value: count,
+        end: behind,
+    } = length
+    else {
+        return malformed();
+    };
+    let call = Call::Frame {
+        is_page: is_page,
+        ext: f64_from_bits(value as u64),
+        length: count,
+    };
+    line_end(text, behind, call)
+}
+
+// The call in the line that begins at `at`.
+pub fn call_at(text: &[u8], at: usize) -> CallAt
+    ensures { λ r. ⌜ lineRead (now (text .entry)) r ≡ callIn (drop at (now (text .entry))) ⌝ }
+{
+    if begins(text, at, b"update") {
+        return update_line(text, at + 6);
+    }
+    if begins(text, at, b"speed") {
+        return speed_line(text, at + 5);
+    }
+    if begins(text, at, b"set") {
+        return set_line(text, at + 3);
+    }
+    if begins(text, at, b"frame") {
+        return frame_line(text, at + 5, false);
+    }
+    if begins(text, at, b"page") {
+        return frame_line(text, at + 4, true);
+    }
+    malformed()
+}
+
+// ---- a list
+
+fn line_count(text: &[u8]) -> usize
+    ensures { λ r. ⌜ (r ≡ lineCount (now (text .entry))) × (r ≤ length (now (text .entry))) ⌝ }
+{
+    let mut count = 0;
+    let mut i = 0;
+    while i < text.len() {
+        if text[i] == b'\n' {
+            count += 1;
+        }
+        i += 1;
+    }
+    count
+}
+
+// The number of the first malformed line among `lines` and what is left behind them.
+fn first_malformed(text: &[u8], lines: usize) -> usize
+    requires { ⌜ lines ≤ length (now text) ⌝ }
+    ensures { λ r. ⌜ r ≡ firstMalformed (readCalls lines (now (text .entry))) ⌝ }
+{
+    let mut at = 0;
+    let mut i = 0;
+    while i < lines {
+        let here = call_at(text, at);
+        let call = here.call;
+        if is_malformed(call) {
+            return i + 1;
+        }
+        at = here.end;
+        i += 1;
+    }
+    if at < text.len() {
+        return lines + 1;
+    }
+    0
+}
+
+pub fn check_calls(text: &[u8]) -> ListChecked
+    ensures { λ r. ⌜ (r .lines ≡ lineCount (now (text .entry))) × (r .malformed ≡ firstMalformed (callList (now (text .entry)))) ⌝ }
+{
+    let lines = line_count(text);
+    ListChecked {
+        lines: lines,
+        malformed: first_malformed(text, lines),
+    }
+}

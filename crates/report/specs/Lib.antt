@@ -1,0 +1,2 @@
+-- What each call shows, as text
+pub mod Report

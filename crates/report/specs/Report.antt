@@ -1,0 +1,59 @@
+-- What a list of calls shows, as text: an answer, the player, the joints' matrices. Definitions only.
+use Prim.Native.Nat.{ℕ}
+use mathlib.Core.List.{List, [], _∷_, _++_, map}
+use lib.ListN.{length, getD}
+use lib.Ieee.{Float, binary32, binary64, toBits}
+use Rattle.model.specs.declared.Player.{Player}
+use Rattle.model.specs.declared.ClipInstance.{ClipInstance}
+use Rattle.model.specs.declared.Transition.{Transition}
+use Rattle.model.specs.declared.Transition.the-variants.{Idle, Running}
+use Rattle.model.specs.Answers.{Verdict, accepted, refused}
+use Rattle.model.specs.Text.{lineFeed, comma}
+use Rattle.model.specs.Clips.{instanceAt}
+use Rattle.model.specs.Plan.{maxClipNodes}
+use Rattle.model.specs.Program.{digits, decimalFields, bitsFields, refusedLine, jointLine, joined}
+use Rattle.model.specs.Run.{Observation}
+
+-- the bits of a 64-bit float, every NaN as 7ff8000000000000, which is how toBits writes it
+abbrev pub wideField : Float → List ℕ
+wideField x = comma ∷ digits 16 16 (toBits binary64 x)
+
+abbrev pub floatFields : List Float → List ℕ
+floatFields xs = bitsFields (map (toBits binary32) xs)
+
+-- `ok`, by its bytes, or the refusal
+unfoldable pub answerLine : Verdict → List ℕ
+answerLine accepted = 111 ∷ 107 ∷ lineFeed ∷ []
+answerLine (refused number place rest) = refusedLine number place
+
+-- `,idle`, or `,running` with the transition's start, target and duration
+unfoldable pub transitionFields : Transition → List ℕ
+transitionFields Idle = 44 ∷ 105 ∷ 100 ∷ 108 ∷ 101 ∷ []
+transitionFields (Running start target duration) =
+    (44 ∷ 114 ∷ 117 ∷ 110 ∷ 110 ∷ 105 ∷ 110 ∷ 103 ∷ []) ++ wideField start ++ decimalFields (target ∷ []) ++ floatFields (duration ∷ [])
+
+-- `player`, clock, speed, state, transition
+unfoldable pub playerLine : Float → Float → ℕ → Transition → List ℕ
+playerLine clock speed state transition =
+    (112 ∷ 108 ∷ 97 ∷ 121 ∷ 101 ∷ 114 ∷ []) ++ wideField clock ++ wideField speed ++ decimalFields (state ∷ []) ++ transitionFields transition ++ lineFeed ∷ []
+
+-- a line for each of some joints' matrices
+unfoldable pub matrixLines : List (List Float) → List ℕ
+matrixLines ms = joined (length ms) (λ j. jointLine j (getD ms j []))
+
+-- what is compared of a call, as text
+unfoldable pub observationText : Observation → List ℕ
+observationText o = answerLine (o .answer) ++ playerLine (o .clock) (o .speed) (o .state) (o .transition) ++ matrixLines (o .matrices)
+
+-- ---- the rest of the player, once the calls are done
+
+-- `parameters`
+unfoldable pub parametersLine : List Float → List ℕ
+parametersLine parameters = (112 ∷ 97 ∷ 114 ∷ 97 ∷ 109 ∷ 101 ∷ 116 ∷ 101 ∷ 114 ∷ 115 ∷ []) ++ floatFields parameters ++ lineFeed ∷ []
+
+-- `instance`
+unfoldable pub instanceLine : ℕ → ClipInstance → List ℕ
+instanceLine n i = (105 ∷ 110 ∷ 115 ∷ 116 ∷ 97 ∷ 110 ∷ 99 ∷ 101 ∷ []) ++ decimalFields (n ∷ []) ++ floatFields (i .start ∷ i .rate ∷ i .offset ∷ []) ++ lineFeed ∷ []
+
+unfoldable pub endText : Player → List ℕ
+endText p = parametersLine (p .parameters) ++ joined maxClipNodes (λ n. instanceLine n (instanceAt (p .instances) n))
