@@ -14,11 +14,19 @@ use Rattle.fields.specs.Wide.{wideBitsIn}
 -- ---- a line
 
 -- `update`, `speed`, `set`, `frame`, `page`, by their bytes
-abbrev pub updateName speedName setName frameName pageName : List ℕ
+abbrev pub updateName : List ℕ
 updateName = 117 ∷ 112 ∷ 100 ∷ 97 ∷ 116 ∷ 101 ∷ []
+
+abbrev pub speedName : List ℕ
 speedName = 115 ∷ 112 ∷ 101 ∷ 101 ∷ 100 ∷ []
+
+abbrev pub setName : List ℕ
 setName = 115 ∷ 101 ∷ 116 ∷ []
+
+abbrev pub frameName : List ℕ
 frameName = 102 ∷ 114 ∷ 97 ∷ 109 ∷ 101 ∷ []
+
+abbrev pub pageName : List ℕ
 pageName = 112 ∷ 97 ∷ 103 ∷ 101 ∷ []
 
 pub data CallLine : Type 0 where
@@ -34,9 +42,13 @@ fieldThen none more = malformed
 fieldThen (field v rest) more = more v rest
 
 -- D, F, and N or L
-abbrev pub wideField bitsField decimalField : List ℕ → Field
+abbrev pub wideField : List ℕ → Field
 wideField s = behindComma wideBitsIn s
+
+abbrev pub bitsField : List ℕ → Field
 bitsField s = behindComma (fieldIn Bits) s
+
+abbrev pub decimalField : List ℕ → Field
 decimalField s = behindComma (fieldIn (Decimal maxWord)) s
 
 -- the line's end
@@ -44,9 +56,13 @@ unfoldable pub lineEnd : Call → List ℕ → CallLine
 lineEnd call s = cond (eqb (front s) lineFeed) (line call (drop 1 s)) malformed
 
 -- behind the names of lines
-unfoldable pub updateLine speedLine setLine : List ℕ → CallLine
+unfoldable pub updateLine : List ℕ → CallLine
 updateLine s = fieldThen (wideField s) (λ d rest. lineEnd (Update (ofBits binary64 d)) rest)
+
+unfoldable pub speedLine : List ℕ → CallLine
 speedLine s = fieldThen (wideField s) (λ d rest. lineEnd (Speed (ofBits binary64 d)) rest)
+
+unfoldable pub setLine : List ℕ → CallLine
 setLine s = fieldThen (decimalField s) (λ n rest. fieldThen (bitsField rest) (λ v. lineEnd (Set n (ofBits binary32 v))))
 
 unfoldable pub frameLine : FrameKind → List ℕ → CallLine
