@@ -1,0 +1,63 @@
+-- A player and answers as hosts in C and Rust hold them, without enums. Definitions only.
+use Prim.Native.Nat.{ℕ}
+use mathlib.Core.Bool.{cond}
+use lib.Dec.{eqb}
+use lib.Ieee.{Float}
+use Rattle.model.specs.declared.Player.{Player}
+use Rattle.model.specs.declared.Transition.{Transition}
+use Rattle.model.specs.declared.Transition.the-variants.{Idle, Running}
+use Rattle.model.specs.Numbers.{0f}
+use Rattle.model.specs.Answers.{Verdict, accepted, refused}
+use Rattle.model.specs.Text as Text
+use Rattle.model.specs.Text.{TextVerdict}
+use Rattle.capi.specs.declared.FlatPlayer.{FlatPlayer}
+use Rattle.capi.specs.declared.FlatAnswer.{FlatAnswer}
+use Rattle.capi.specs.declared.FlatTextAnswer.{FlatTextAnswer}
+
+-- ---- the player
+
+-- 0 is idle; any other number is in a transition
+unfoldable pub transitionOf : ℕ → Float → ℕ → Float → Transition
+transitionOf running start target duration = cond (eqb running 0) Idle (Running start target duration)
+
+-- the player that a flat one stands for, whatever it holds
+unfoldable pub unpacked : FlatPlayer → Player
+unpacked f = record {
+  clock = f .clock;
+  speed = f .speed;
+  state = f .state;
+  transition = transitionOf (f .running) (f .start) (f .target) (f .duration);
+  parameters = f .parameters;
+  instances = f .instances;
+}
+
+unfoldable pub packedWith : Player → ℕ → Float → ℕ → Float → FlatPlayer
+packedWith p running start target duration = record {
+  clock = p .clock;
+  speed = p .speed;
+  state = p .state;
+  running = running;
+  start = start;
+  target = target;
+  duration = duration;
+  parameters = p .parameters;
+  instances = p .instances;
+}
+
+unfoldable pub packedAs : Player → Transition → FlatPlayer
+packedAs p Idle = packedWith p 0 0f 0 0f
+packedAs p (Running start target duration) = packedWith p 1 start target duration
+
+-- the flat player that calls store
+unfoldable pub packed : Player → FlatPlayer
+packed p = packedAs p (p .transition)
+
+-- ---- answers: number 0 is the acceptance
+
+unfoldable pub flatAnswer : Verdict → FlatAnswer
+flatAnswer accepted = record { number = 0; place = 0 }
+flatAnswer (refused number place rest) = record { number = number; place = place }
+
+unfoldable pub flatTextAnswer : TextVerdict → FlatTextAnswer
+flatTextAnswer (Text.accepted words numbers) = record { number = 0; place = 0; words = words; numbers = numbers }
+flatTextAnswer (Text.refused number place rest) = record { number = number; place = place; words = 0; numbers = 0 }
