@@ -1,0 +1,55 @@
+-- Replaying a list of calls: what is printed is the run by definition, as text. Definitions only.
+use Prim.Native.Nat.{ℕ}
+use mathlib.Core.Bool.{cond}
+use mathlib.Core.List.{List, [], _∷_, _++_, map}
+use lib.ListN.{length}
+use lib.Dec.{ltb}
+use lib.Ieee.{Float}
+use Rattle.model.specs.declared.Player.{Player}
+use Rattle.model.specs.Plan.{jointCount}
+use Rattle.model.specs.Text.{lineFeed, Reading, bad, got, readFigure, floatsOf}
+use Rattle.model.specs.Program.{decimalFields, refusedLine, maxText}
+use Rattle.model.specs.Run.{startVerdict, startPlayer, Call, after, runFrom}
+use Rattle.calls.specs.CallText.{CallList, badLine, calls, callList}
+use Rattle.report.specs.Report.{below, answerLine, playerLine, observationText, endText}
+
+-- texts, one behind the other
+unfoldable pub texts : List (List ℕ) → List ℕ
+texts [] = []
+texts (t ∷ ts) = t ++ texts ts
+
+module _ (plan : List ℕ) (numbers : List Float) where
+  -- what calls show from a player on, with every joint chosen
+  unfoldable pub reportFrom : Player → List Call → List ℕ
+  reportFrom p cs = texts (map observationText (runFrom plan numbers (below (jointCount plan)) p cs))
+
+  -- the player that calls leave
+  unfoldable pub playerAfter : Player → List Call → Player
+  playerAfter p [] = p
+  playerAfter p (c ∷ cs) = playerAfter (after plan numbers p c) cs
+
+  -- the start's answer and its player, which is blank where the start is refused
+  unfoldable pub startText : List ℕ
+  startText =
+      let p = startPlayer plan numbers in
+      answerLine (startVerdict plan numbers) ++ playerLine (p .clock) (p .speed) (p .state) (p .transition)
+
+  unfoldable pub replayed : List Call → List ℕ
+  replayed cs = startText ++ reportFrom (startPlayer plan numbers) cs ++ endText (playerAfter (startPlayer plan numbers) cs)
+
+-- `malformed,LINE`, by its bytes
+unfoldable pub malformedLine : ℕ → List ℕ
+malformedLine n = (109 ∷ 97 ∷ 108 ∷ 102 ∷ 111 ∷ 114 ∷ 109 ∷ 101 ∷ 100 ∷ []) ++ decimalFields (n ∷ []) ++ lineFeed ∷ []
+
+-- a figure that was read, with a list of calls
+unfoldable pub withCalls : List ℕ → List Float → CallList → List ℕ
+withCalls plan numbers (badLine n) = malformedLine n
+withCalls plan numbers (calls cs) = replayed plan numbers cs
+
+unfoldable pub withReading : Reading → List ℕ → List ℕ
+withReading (bad n) text = refusedLine 11 n
+withReading (got ws bs rest n) text = withCalls ws (floatsOf bs) (callList text)
+
+-- the whole program: a figure's text and a list of calls; the figure is judged first
+unfoldable pub replayPrinted : List ℕ → List ℕ → List ℕ
+replayPrinted figure text = cond (ltb maxText (length figure)) (refusedLine 13 maxText) (withReading (readFigure figure) text)

@@ -1,0 +1,243 @@
+// A list of calls performed on a figure, with what each call shows put into a slice of bytes. A long list shows more than any buffer holds, so `perform`
+// stops where there is no room for another report and says how far it came; its caller prints, and goes on from there.
+use calls::Call;
+use calls::call_at;
+use controller::frame;
+use controller::page_frame;
+use controller::set;
+use controller::speed;
+use controller::start;
+use controller::update;
+use layout::JOINT_COUNT_AT;
+use layout::word;
+use model::Answer;
+use model::Outcome;
+use model::Player;
+use printing::put_bytes;
+use printing::put_decimal;
+use printing::put_joints;
+use report::put_answer;
+use report::put_instances;
+use report::put_parameters;
+use report::put_player;
+ghost use mathlib.Core.Path.{_≡_};
+ghost use Prim.Native.Nat.{_+_, _≤_};
+ghost use lib.ListN.{length};
+ghost use Rattle.model.specs.Run.{Frame};
+ghost use Rattle.calls.specs.Read.{kindOf};
+ghost use Rattle.printing.specs.Written.{Written};
+ghost use Rattle.report.specs.Report.{endText};
+ghost use Rattle.replay_core.specs.Replay.{malformedLine};
+ghost use Rattle.replay_core.specs.Replaying.{Front, Done, Called, callText, Beginning, Performing};
+
+// The longest report of a call, with 64 joints, is shorter.
+const MOST_REPORT: usize = 10000;
+
+// A call's outcome, and how many joints' matrices it left in the floats.
+pub struct CallDone {
+    pub answer: Answer,
+    pub player: Player,
+    pub joints: usize,
+}
+
+// The player of a start, and how many bytes were put.
+pub struct Begun {
+    pub player: Player,
+    pub length: usize,
+}
+
+// The player after the calls that were performed, the byte where the next one's line begins, how many lines are left, and how many bytes were put.
+pub struct Progress {
+    pub player: Player,
+    pub at: usize,
+    pub lines: usize,
+    pub length: usize,
+}
+
+// ---- one call
+
+// A call that has no matrices to show.
+fn done(outcome: Outcome) -> CallDone {
+    let answer = outcome.answer;
+    let player = outcome.player;
+    CallDone {
+        answer: answer,
+        player: player,
+        joints: 0,
+    }
+}
+
+// A call that is never refused.
+fn accepted(player: Player) -> CallDone {
+    CallDone {
+        answer: Answer::Accepted,
+        player: player,
+        joints: 0,
+    }
+}
+
+fn frame_of(
+    plan: &[u16],
+    numbers: &[f32],
+    player: Player,
+    is_page: bool,
+    ext: f64,
+    output: &mut [f32],
+) -> Outcome {
+    if is_page {
+        return page_frame(plan, numbers, player, ext, output);
+    }
+    frame(plan, numbers, player, ext, output)
+}
+
+// No frame needs more than 1,024 floats, so a longer output is answered alike.
+fn frame_done(
+    plan: &[u16],
+    numbers: &[f32],
+    player: Player,
+    is_page: bool,
+    ext: f64,
+    length: usize,
+    floats: &mut [f32],
+) -> CallDone
+    requires { ⌜ length (now floats) ≡ 1024 ⌝ }
+    ensures { λ r. ⌜ Done (now (plan .entry)) (now (numbers .entry)) player (Frame (kindOf «is_page») ext length) (now (floats .exit)) r × (length (now (floats .exit)) ≡ 1024) ⌝ }
+{
+    let room = if length < 1024 { length } else { 1024 };
+    let outcome = frame_of(plan, numbers, player, is_page, ext, &mut floats[..room]);
+    let answer = outcome.answer;
+    let Answer::Accepted = answer else {
+        return done(outcome);
+    };
+    let after = outcome.player;
+    CallDone {
+        answer: Answer::Accepted,
+        player: after,
+        joints: word(plan, JOINT_COUNT_AT),
+    }
+}
+
+// A malformed line, which no list that passed has, changes nothing.
+fn call_done(
+    plan: &[u16],
+    numbers: &[f32],
+    player: Player,
+    call: Call,
+    floats: &mut [f32],
+) -> CallDone
+    requires { ⌜ length (now floats) ≡ 1024 ⌝ }
+    ensures { λ r. ⌜ Called (now (plan .entry)) (now (numbers .entry)) player call (now (floats .exit)) r × (length (now (floats .exit)) ≡ 1024) ⌝ }
+{
+    match call {
+        Call::Malformed => accepted(player),
+        Call::Update { delta } => accepted(update(player, delta)),
+        Call::Speed { value } => accepted(speed(player, value)),
+        Call::Set { parameter, value } => done(set(player, parameter, value)),
+        Call::Frame {
+            is_page,
+            ext,
+            length,
+        } => frame_done(plan, numbers, player, is_page, ext, length, floats),
+    }
+}
+
+// The answer, the player and the joints.
+fn put_call(out: &mut [u8], at: usize, call: CallDone, floats: &[f32]) -> usize
+    requires { ⌜ (at + 10000 ≤ length (now out)) × (call .joints ≤ 64) × (length (now floats) ≡ 1024) ⌝ }
+    ensures { λ r. ⌜ Written (now (out .entry)) at (callText call (now (floats .entry))) (now (out .exit)) r × (r ≤ at + 10000) ⌝ }
+{
+    let answer = call.answer;
+    let player = call.player;
+    let transition = player.transition;
+    let behind_answer = put_answer(out, at, answer);
+    let behind_player = put_player(
+        out,
+        behind_answer,
+        player.clock,
+        player.speed,
+        player.state,
+        transition,
+    );
+    put_joints(out, behind_player, call.joints, floats)
+}
+
+// ---- a list
+
+// The start's answer and player.
+pub fn begin(plan: &[u16], numbers: &[f32], out: &mut [u8; 16384]) -> Begun
+    ensures { λ r. ⌜ Beginning (now (plan .entry)) (now (numbers .entry)) (now (out .exit)) r ⌝ }
+{
+    let outcome = start(plan, numbers);
+    let answer = outcome.answer;
+    let player = outcome.player;
+    let transition = player.transition;
+    let at = put_answer(out, 0, answer);
+    let length = put_player(
+        out,
+        at,
+        player.clock,
+        player.speed,
+        player.state,
+        transition,
+    );
+    Begun {
+        player: player,
+        length: length,
+    }
+}
+
+// The calls of `lines` lines from the byte `at` on.
+pub fn perform(
+    plan: &[u16],
+    numbers: &[f32],
+    text: &[u8],
+    at: usize,
+    lines: usize,
+    player: Player,
+    out: &mut [u8],
+) -> Progress
+    ensures { λ r. ⌜ Performing (now (plan .entry)) (now (numbers .entry)) (now (text .entry)) at lines player (now (out .exit)) r ⌝ }
+{
+    let mut floats = [0.0f32; 1024];
+    let mut moved = player;
+    let mut here = at;
+    let mut left = lines;
+    let mut length = 0;
+    while left > 0 {
+        if out.len() - length < MOST_REPORT {
+            break;
+        }
+        let read = call_at(text, here);
+        let call = read.call;
+        let performed = call_done(plan, numbers, moved, call, &mut floats);
+        length = put_call(out, length, performed, &floats);
+        moved = performed.player;
+        here = read.end;
+        left -= 1;
+    }
+    Progress {
+        player: moved,
+        at: here,
+        lines: left,
+        length: length,
+    }
+}
+
+// The parameters and the instances, once the calls are done.
+pub fn finish(player: Player, out: &mut [u8; 16384]) -> usize
+    ensures { λ r. ⌜ Front (endText player) (now (out .exit)) r ⌝ }
+{
+    let parameters = player.parameters;
+    let instances = player.instances;
+    let at = put_parameters(out, 0, &parameters);
+    put_instances(out, at, &instances)
+}
+
+// The line that says which line of a list is malformed.
+pub fn put_malformed(line: usize, out: &mut [u8; 16384]) -> usize
+    ensures { λ r. ⌜ Front (malformedLine line) (now (out .exit)) r ⌝ }
+{
+    let behind_name = put_bytes(out, 0, b"malformed");
+    let behind_line = put_decimal(out, behind_name, line);
+    put_bytes(out, behind_line, b"\n")
+}
