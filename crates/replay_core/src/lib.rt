@@ -97,13 +97,17 @@ fn frame_done(
     player: Player,
     is_page: bool,
     ext: f64,
-    length: usize,
+    output_length: usize,
     floats: &mut [f32],
 ) -> CallDone
     requires { ⌜ length (now floats) ≡ 1024 ⌝ }
-    ensures { λ r. ⌜ Done (now (plan .entry)) (now (numbers .entry)) player (Frame (kindOf «is_page») ext length) (now (floats .exit)) r × (length (now (floats .exit)) ≡ 1024) ⌝ }
+    ensures { λ r. ⌜ Done (now (plan .entry)) (now (numbers .entry)) player (Frame (kindOf «is_page») ext «output_length») (now (floats .exit)) r × (length (now (floats .exit)) ≡ 1024) ⌝ }
 {
-    let room = if length < 1024 { length } else { 1024 };
+    let room = if output_length < 1024 {
+        output_length
+    } else {
+        1024
+    };
     let outcome = frame_of(plan, numbers, player, is_page, ext, &mut floats[..room]);
     let answer = outcome.answer;
     let Answer::Accepted = answer else {

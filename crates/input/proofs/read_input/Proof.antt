@@ -2,8 +2,8 @@ use Prim.Native.Nat.{_<_, _≤_, _-_, _+_}
 use mathlib.Core.Path.{_≡_}
 use lib.ListN.{length}
 use borrow.Author.Needs.{needs}
-use Rattle.gentianlathe.proofs.read_input.Statement.{statement}
-use Rattle.gentianlathe.proofs.read_input.Tie as tie
+use Rattle.input.proofs.read_input.Statement.{statement}
+use Rattle.input.proofs.read_input.Tie as tie
 
 abbrev Inv-loop : tie.InvT-loop
 Inv-loop text₀ done₀ failures₀ text done failures = (done ≤ length text) × (length text ≡ length text₀) × (failures < 100)

@@ -1,0 +1,75 @@
+// The program `replay FIGURE CALLS`: reads a figure's text and a list of calls from two files, and prints what each call shows.
+use input::Input;
+use input::read_input;
+use libc::STDERR_FILENO;
+use replay_print::print_replay;
+ghost use Prim.Native.Nat.{_≤_};
+ghost use lib.ListN.{length};
+
+// The content of the file that argument i names. Where it cannot be read, standard error says why.
+fn read_file(i: usize, text: &mut [u8]) -> Input
+    ensures { λ r. ⌜ r .count ≤ length (now (text .entry)) ⌝ }
+{
+    let mut path = io::buffer();
+    let size = os::arg(i, &mut path);
+    if os::errno() != 0 {
+        os::fail(b"replay: an argument");
+        return Input {
+            count: 0,
+            failed: true,
+        };
+    }
+    let fd = os::open_read(&path[..size]);
+    if fd < 0 {
+        os::fail(&path[..size]);
+        return Input {
+            count: 0,
+            failed: true,
+        };
+    }
+    let input = read_input(fd, text);
+    if input.failed {
+        os::fail(&path[..size]);
+    }
+    libc::close(fd);
+    input
+}
+
+fn replay(figure: &[u8], calls: &[u8]) {
+    if calls.len() > 262144 {
+        io::write_all(
+            STDERR_FILENO,
+            b"replay: the list of calls is longer than 262144 bytes\n",
+        );
+        return;
+    }
+    if !print_replay(figure, calls) {
+        io::write_all(
+            STDERR_FILENO,
+            b"replay: standard output cannot be written\n",
+        );
+    }
+}
+
+fn main() {
+    if os::arg_count() != 3 {
+        io::write_all(
+            STDERR_FILENO,
+            b"usage: replay FIGURE CALLS\nprints what each call of the list in CALLS shows on the figure in FIGURE\n",
+        );
+        return;
+    }
+    let mut figure = [0u8; 65537];
+    let figure_read = read_file(1, &mut figure);
+    if figure_read.failed {
+        return;
+    }
+    let mut calls = [0u8; 262145];
+    let calls_read = read_file(2, &mut calls);
+    if calls_read.failed {
+        return;
+    }
+    let figure_size = figure_read.count;
+    let calls_size = calls_read.count;
+    replay(&figure[..figure_size], &calls[..calls_size]);
+}

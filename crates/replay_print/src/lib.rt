@@ -1,0 +1,86 @@
+// Prints what replaying a list of calls on a figure shows. The work is `replay_core`'s, on slices; here it is written to standard output, part by part.
+use calls::check_calls;
+use libc::STDOUT_FILENO;
+use model::Player;
+use model::TextAnswer;
+use printing::put_refusal;
+use replay_core::begin;
+use replay_core::finish;
+use replay_core::perform;
+use replay_core::put_malformed;
+ghost use Prim.Native.Nat.{_≤_};
+ghost use lib.ListN.{length};
+
+// The bytes below `size`; false where they cannot be written.
+fn write_front(bytes: &[u8], size: usize) -> bool
+    requires { ⌜ size ≤ length (now bytes) ⌝ }
+{
+    io::write_all(STDOUT_FILENO, &bytes[..size])
+}
+
+fn print_refusal(number: usize, place: usize) -> bool {
+    let mut out = [0u8; 64];
+    let size = put_refusal(&mut out, 0, number, place);
+    write_front(&out, size)
+}
+
+fn print_malformed(line: usize) -> bool {
+    let mut out = [0u8; 16384];
+    let size = put_malformed(line, &mut out);
+    write_front(&out, size)
+}
+
+fn print_rest(player: Player) -> bool {
+    let mut out = [0u8; 16384];
+    let size = finish(player, &mut out);
+    write_front(&out, size)
+}
+
+// The calls, as many at a time as the buffer holds reports of.
+fn print_calls(plan: &[u16], numbers: &[f32], calls: &[u8], lines: usize, player: Player) -> bool {
+    let mut out = [0u8; 65536];
+    let mut moved = player;
+    let mut at = 0;
+    let mut left = lines;
+    while left > 0 {
+        let progress = perform(plan, numbers, calls, at, left, moved, &mut out);
+        if !write_front(&out, progress.length) {
+            return false;
+        }
+        moved = progress.player;
+        at = progress.at;
+        left = progress.lines;
+    }
+    print_rest(moved)
+}
+
+fn print_list(plan: &[u16], numbers: &[f32], calls: &[u8]) -> bool {
+    let checked = check_calls(calls);
+    if checked.malformed > 0 {
+        return print_malformed(checked.malformed);
+    }
+    let mut out = [0u8; 16384];
+    let begun = begin(plan, numbers, &mut out);
+    if !write_front(&out, begun.length) {
+        return false;
+    }
+    let player = begun.player;
+    print_calls(plan, numbers, calls, checked.lines, player)
+}
+
+// The slices hold the figure of any text that is not too long, as those of the program do. False where standard output cannot be written.
+pub fn print_replay(figure: &[u8], calls: &[u8]) -> bool {
+    if figure.len() > 65536 {
+        return print_refusal(13, 65536);
+    }
+    let mut plan = [0u16; 2869];
+    let mut numbers = [0.0f32; 7281];
+    let read = text::read(figure, &mut plan, &mut numbers);
+    match read {
+        TextAnswer::Refused { number, place } => print_refusal(number, place),
+        TextAnswer::Accepted {
+            words,
+            numbers: count,
+        } => print_list(&plan[..words], &numbers[..count], calls),
+    }
+}
