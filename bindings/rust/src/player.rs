@@ -88,9 +88,9 @@ pub struct PlayerParts {
     /// The transition that the player is in; `None` if idle.
     pub transition: Option<Transition>,
     /// The parameters' values.
-    pub parameters: [f32; PARAMETERS],
+    pub parameters: [f32; 32],
     /// The clip instances: number n is that of the plan's clip node n, counted from 0 over all states.
-    pub instances: [ClipInstance; INSTANCES],
+    pub instances: [ClipInstance; 64],
 }
 
 /// A player: clock, speed, current state, perhaps a transition, parameters and clip instances.

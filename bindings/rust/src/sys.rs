@@ -6,6 +6,9 @@ pub const PARAMETERS: usize = 32;
 pub const INSTANCE_FLOATS: usize = 3 * 64;
 
 /// The player as the archive lays it out. Every content is taken: there are only floats and counts.
+///
+/// The arrays' lengths are plain numbers, since rustc 1.95 breaks off at a closure that updates a struct with
+/// lengths by name.
 #[repr(C)]
 #[derive(Clone, Copy, Debug)]
 pub struct RawPlayer {
@@ -17,8 +20,8 @@ pub struct RawPlayer {
     pub start: f64,
     pub target: usize,
     pub duration: f32,
-    pub parameters: [f32; PARAMETERS],
-    pub instances: [f32; INSTANCE_FLOATS],
+    pub parameters: [f32; 32],
+    pub instances: [f32; 192],
 }
 
 // A target with another pointer size stops here, at compile time.
