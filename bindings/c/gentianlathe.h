@@ -14,7 +14,8 @@
  *   - what one pointer of a call spans does not overlap what another spans.
  *
  * The library allocates nothing and keeps nothing between calls. So it has no handle to close, and several
- * threads may call it at once, each with its own player and output; plan and numbers may be shared.
+ * threads may call it at once, each with its own player and output; plan and numbers may be shared. A stack of
+ * 64 KiB is enough for any call.
  *
  * Floats are IEEE 754. All NaNs count as one: which payload and sign a NaN in an output or in a player
  * has is not promised.

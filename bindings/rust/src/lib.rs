@@ -39,7 +39,6 @@
 //! then the two are of different versions.
 
 #![deny(missing_docs, unsafe_op_in_unsafe_fn)]
-#![cfg_attr(test, deny(warnings))]
 
 mod calls;
 mod figure;

@@ -1,5 +1,4 @@
 //! Any bytes as text, any content of a player: every call answers, and a refused one changes nothing.
-#![deny(warnings)]
 
 mod common;
 
@@ -8,8 +7,8 @@ use gentianlathe::{most_numbers, most_words, read_text, Figure, Player};
 
 /// Reads a text in every way, and shows it if it is a figure's.
 fn put(text: &[u8], random: &mut Random) -> bool {
-    let words = random.from_to(0, 40);
-    let numbers = random.from_to(0, 80);
+    let words = random.between(0, 40);
+    let numbers = random.between(0, 80);
     let plan: Vec<u16> = (0..words).map(|_| random.bits() as u16).collect();
     let floats: Vec<f32> = (0..numbers).map(|_| random.float()).collect();
     let (mut plan_after, mut floats_after) = (plan.clone(), floats.clone());
@@ -51,7 +50,7 @@ fn put(text: &[u8], random: &mut Random) -> bool {
 /// One to three places replaced, taken out or put in, a line doubled, or the end cut off.
 fn damaged(text: &[u8], random: &mut Random) -> Vec<u8> {
     let mut damaged = text.to_vec();
-    for _ in 0..random.from_to(1, 3) {
+    for _ in 0..random.between(1, 3) {
         let place = random.below(damaged.len().max(1));
         let byte = *random.pick(b"0123456789abcdef,\n-A\0\xff");
         match random.below(6) {

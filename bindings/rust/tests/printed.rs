@@ -1,5 +1,4 @@
 //! The example that document 01 prints, by text and by words; page frames; and the other examples.
-#![deny(warnings)]
 
 mod common;
 

@@ -1,5 +1,4 @@
 //! Each refusal that a call can give, its place, and what it says.
-#![deny(warnings)]
 
 mod common;
 

@@ -1,5 +1,4 @@
 //! Figures and players may go to and be shared between threads.
-#![deny(warnings)]
 
 mod common;
 
@@ -48,4 +47,34 @@ fn threads_share_a_figure() {
             }
         });
     }
+}
+
+/// 64 joints; two states, each with the deepest tree that 31 nodes can make; a transition between them.
+fn deepest() -> Figure {
+    let mut plan = vec![64, 16, 1, 2, 0, 255];
+    plan.extend(0..63);
+    plan.extend([1; 16]);
+    for transition in [&[1, 0, 1, 1][..], &[0]] {
+        plan.push(31);
+        (0..16).for_each(|clip| plan.extend([0, clip, 0, 0]));
+        plan.extend([1, 0, 1, 0]);
+        (2..16).for_each(|clip| plan.extend([1 + clip % 2, 14 + clip, clip, 0]));
+        plan.extend(transition);
+    }
+    Figure::new(plan, vec![1.0; 16 + 2 + 8 * 64 * 16]).expect("a figure")
+}
+
+#[test]
+fn a_small_stack_will_do() {
+    let figure = deepest();
+    let mut output = vec![0.0; figure.output_len()];
+    let mut player = figure.start();
+    let thread = thread::Builder::new().stack_size(64 * 1024).spawn(move || {
+        let answer = player.frame(&figure, 0.0, &mut output);
+        (answer, player.transition().is_some())
+    });
+    assert_eq!(
+        thread.expect("a thread").join().expect("no panic"),
+        (Ok(()), true)
+    );
 }

@@ -25,7 +25,7 @@ impl Random {
         ((self.bits() >> 33) as usize) % bound
     }
 
-    pub fn from_to(&mut self, least: usize, most: usize) -> usize {
+    pub fn between(&mut self, least: usize, most: usize) -> usize {
         least + self.below(most - least + 1)
     }
 
@@ -92,7 +92,7 @@ fn tree(random: &mut Random, leaves: usize, clips: usize, parameters: usize) -> 
         let b = open.swap_remove(random.below(open.len()));
         let parameter = random.below(parameters) as u16;
         open.push(nodes.len());
-        nodes.push([random.from_to(1, 2) as u16, a as u16, b as u16, parameter]);
+        nodes.push([random.between(1, 2) as u16, a as u16, b as u16, parameter]);
     }
     nodes
 }
@@ -100,9 +100,9 @@ fn tree(random: &mut Random, leaves: usize, clips: usize, parameters: usize) -> 
 /// A random figure that a start accepts.
 pub fn random_figure(random: &mut Random) -> Figure {
     let joints = *random.pick(&[1, 2, 3, 31, 32, 33, 64]);
-    let clips = random.from_to(1, 3);
+    let clips = random.between(1, 3);
     let parameters = random.below(4);
-    let states = random.from_to(1, 4);
+    let states = random.between(1, 4);
     let initial = random.below(states);
     let mut plan: Vec<u16> = [joints, clips, parameters, states, initial]
         .map(|w| w as u16)
@@ -111,14 +111,14 @@ pub fn random_figure(random: &mut Random) -> Figure {
         let parent = random.below(joint + 1);
         plan.push(if parent == joint { 255 } else { parent as u16 });
     }
-    let samples: Vec<usize> = (0..clips).map(|_| random.from_to(1, 4)).collect();
+    let samples: Vec<usize> = (0..clips).map(|_| random.between(1, 4)).collect();
     plan.extend(samples.iter().map(|n| *n as u16));
     let mut count = clips + 8 * joints * samples.iter().sum::<usize>();
     for _ in 0..states {
         let leaves = if parameters == 0 {
             1
         } else {
-            random.from_to(1, 16)
+            random.between(1, 16)
         };
         let nodes = tree(random, leaves, clips, parameters);
         plan.push(nodes.len() as u16);
