@@ -55,13 +55,13 @@ impl Archive {
         assert_eq!(answer, ACCEPTED);
     }
 
-    pub fn update(&mut self, delta: f64) {
-        // SAFETY: a player that is ours.
-        unsafe { sys::gentianlathe_update(&mut self.player, delta) }
+    pub fn in_transition(&self) -> bool {
+        self.player.running != 0
     }
 
     pub fn play(&mut self, delta: f64, ext: f64) {
-        self.update(delta);
+        // SAFETY: a player that is ours.
+        unsafe { sys::gentianlathe_update(&mut self.player, delta) }
         let answer = self.frame(self.plan.len(), ext, self.output.len());
         assert_eq!(answer, ACCEPTED);
     }

@@ -74,6 +74,7 @@ fn measure(size: Size, time: Duration) -> Row {
         start.batch(|| apart.start());
     });
     rehearse(&mut ours, &mut theirs);
+    assert_eq!(ours.in_transition(), size.moves);
     Row {
         words: ours.plan.len(),
         theirs: reference.least,
@@ -86,7 +87,8 @@ fn measure(size: Size, time: Duration) -> Row {
 
 fn sizes(time: Duration) {
     println!("\n### Four sizes\n");
-    println!("| figure | plan words | Rust ns | archive ns | Rust / archive | check ns | check share | call ns | start ns |");
+    print!("| figure | plan words | Rust ns | archive ns | Rust / archive ");
+    println!("| check ns | check share | call ns | start ns |");
     println!("|---|---:|---:|---:|---:|---:|---:|---:|---:|");
     let moving = Size {
         states: 2,
@@ -110,7 +112,8 @@ fn sizes(time: Duration) {
             start,
         } = row;
         let (ratio, share) = (theirs / ours, 100.0 * check / ours);
-        println!("| {name} | {words} | {theirs:.0} | {ours:.0} | {ratio:.2} | {check:.0} | {share:.0} % | {call:.0} | {start:.0} |");
+        print!("| {name} | {words} | {theirs:.0} | {ours:.0} | {ratio:.2} ");
+        println!("| {check:.0} | {share:.0} % | {call:.0} | {start:.0} |");
     }
 }
 
@@ -167,27 +170,20 @@ fn texts(time: Duration) {
     }
 }
 
-fn main() {
-    let time = match std::env::args().nth(1).map(|word| word.parse()) {
-        None => Duration::from_millis(900),
-        Some(Ok(milliseconds)) => Duration::from_millis(milliseconds),
-        Some(Err(_)) => {
-            eprintln!("usage: bench [MILLISECONDS]");
-            std::process::exit(2);
-        }
-    };
-    sizes(time);
+fn growths(time: Duration) {
+    let joints = [1, 2, 4, 8, 16, 32, 33, 48, 64];
     growth(
         "Joints (3 nodes)",
         "joints",
-        &[1, 2, 4, 8, 16, 32, 33, 48, 64],
+        &joints,
         |joints| Size::new(joints, 3),
         time,
     );
+    let nodes = [1, 3, 7, 15, 31];
     growth(
         "Nodes (20 joints)",
         "nodes",
-        &[1, 3, 7, 15, 31],
+        &nodes,
         |nodes| Size::new(20, nodes),
         time,
     );
@@ -196,7 +192,7 @@ fn main() {
         ..Size::new(20, 3)
     };
     growth(
-        "Transitions that wait (20 joints, 3 nodes)",
+        "Waiting transitions (20 joints, 3 nodes)",
         "transitions",
         &[0, 4, 16],
         waiting,
@@ -213,5 +209,18 @@ fn main() {
         states,
         time,
     );
+}
+
+fn main() {
+    let time = match std::env::args().nth(1).map(|word| word.parse()) {
+        None => Duration::from_millis(900),
+        Some(Ok(milliseconds)) => Duration::from_millis(milliseconds),
+        Some(Err(_)) => {
+            eprintln!("usage: bench [MILLISECONDS]");
+            std::process::exit(2);
+        }
+    };
+    sizes(time);
+    growths(time);
     texts(time);
 }

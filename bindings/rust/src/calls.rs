@@ -31,6 +31,12 @@ fn result(answer: RawAnswer) -> Result<(), Refusal> {
     }
 }
 
+/// Bytes of the archive's player.
+pub fn player_size() -> usize {
+    // SAFETY: it takes nothing.
+    unsafe { sys::gentianlathe_player_size() }
+}
+
 /// Makes sure that the linked archive has the player that this crate was written for; an archive of another
 /// version would write past ours. Every way to a player comes through here.
 ///
@@ -40,12 +46,11 @@ fn result(answer: RawAnswer) -> Result<(), Refusal> {
 pub fn hold_layout() {
     static HELD: Once = Once::new();
     HELD.call_once(|| {
-        // SAFETY: it takes nothing and returns a count.
-        let theirs = unsafe { sys::gentianlathe_player_size() };
-        let ours = size_of::<RawPlayer>();
+        let (theirs, ours) = (player_size(), size_of::<RawPlayer>());
         assert!(
             theirs == ours,
-            "gentianlathe: the archive's player has {theirs} bytes and this crate's {ours}: take both from one version"
+            "gentianlathe: the archive's player has {theirs} bytes and this crate's {ours}: \
+             take both from one version"
         );
     });
 }

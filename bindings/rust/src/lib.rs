@@ -38,12 +38,14 @@
 //! Making the first figure or player panics where the linked archive's player has another size than this crate's:
 //! then the two are of different versions.
 
-#![deny(missing_docs, unsafe_op_in_unsafe_fn)]
+#![deny(missing_docs, unsafe_code)]
 
+#[allow(unsafe_code)]
 mod calls;
 mod figure;
 mod player;
 #[cfg(test)]
+#[allow(unsafe_code)]
 mod raw_tests;
 mod refusal;
 #[allow(missing_docs)]

@@ -1,8 +1,8 @@
-//! The player's layout, and fields that mean nothing: what only the raw player can have.
+//! The player's layout, fields that mean nothing, whole answers: what only the raw calls can show.
 
 use crate::calls::{self, FrameKind, Slices};
 use crate::player::Player;
-use crate::sys::{self, RawPlayer};
+use crate::sys::{self, RawPlayer, RawTextAnswer};
 use std::mem::{offset_of, size_of};
 
 const PLAN: [u16; 13] = [1, 1, 0, 1, 0, 255, 1, 1, 0, 0, 0, 0, 0];
@@ -14,10 +14,7 @@ const FIGURE: Slices = Slices {
 
 #[test]
 fn layout_is_the_archives() {
-    // SAFETY: it takes nothing.
-    assert_eq!(size_of::<RawPlayer>(), unsafe {
-        sys::gentianlathe_player_size()
-    });
+    assert_eq!(size_of::<RawPlayer>(), calls::player_size());
     assert_eq!(offset_of!(RawPlayer, running), 24);
     assert_eq!(offset_of!(RawPlayer, duration), 48);
     assert_eq!(offset_of!(RawPlayer, parameters), 52);
@@ -63,4 +60,36 @@ fn idle_ignores_the_transitions_fields() {
     };
     assert_eq!(Player::from_raw(odd), Player::from_raw(fresh));
     assert_eq!(play(odd), play(fresh));
+}
+
+/// A reading's whole answer, with slices of these lengths.
+fn read(text: &[u8], words: usize, numbers: usize) -> RawTextAnswer {
+    let (mut plan, mut floats) = (vec![0; words], vec![0.0; numbers]);
+    // SAFETY: three slices, all apart.
+    unsafe {
+        sys::gentianlathe_read_text(
+            text.as_ptr(),
+            text.len(),
+            plan.as_mut_ptr(),
+            words,
+            floats.as_mut_ptr(),
+            numbers,
+        )
+    }
+}
+
+#[test]
+fn a_refused_readings_counts_are_0() {
+    let text = include_bytes!("../../../examples/printed.figure");
+    let answer = |number, place, words, numbers| RawTextAnswer {
+        number,
+        place,
+        words,
+        numbers,
+    };
+    assert_eq!(read(text, 13, 9), answer(0, 0, 13, 9));
+    assert_eq!(read(text, 12, 9), answer(12, 0, 0, 0));
+    assert_eq!(read(text, 13, 8), answer(12, 0, 0, 0));
+    assert_eq!(read(&text[..60], 13, 9), answer(11, 5, 0, 0));
+    assert_eq!(read(b"", 0, 0), answer(11, 1, 0, 0));
 }

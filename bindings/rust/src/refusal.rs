@@ -136,7 +136,26 @@ fn range(word: usize) -> &'static str {
         2 => "the number of parameters must be 0 to 32",
         3 => "the number of states must be 1 to 16",
         4 => "the initial state must be below the number of states",
-        _ => "a clip has 1 to 4096 samples, a state 1 to 31 nodes and 0 to 16 transitions, a plan at most 64 clip nodes",
+        _ => {
+            "a clip has 1 to 4096 samples, a state 1 to 31 nodes and 0 to 16 transitions, \
+             a plan at most 64 clip nodes"
+        }
+    }
+}
+
+/// What is wrong with a word of the plan.
+fn wrong_word(refusal: Refusal, word: usize) -> String {
+    match refusal {
+        Refusal::Count { .. } => format!(" is out of range: {}", range(word)),
+        Refusal::Parent { .. } => {
+            let joint = word.saturating_sub(HEADER);
+            format!(", the parent of joint {joint}, is neither 255 nor an earlier joint")
+        }
+        Refusal::Node { .. } => {
+            " is wrong in a node, or counts nodes of which one is not used".into()
+        }
+        Refusal::Transition { .. } => " is wrong in a transition".into(),
+        _ => " is one too many: the last state ended before it".into(),
     }
 }
 
@@ -144,49 +163,22 @@ impl fmt::Display for Refusal {
     fn fmt(&self, f: &mut fmt::Formatter<'_>) -> fmt::Result {
         write!(f, "refusal {}: ", self.number())?;
         match *self {
-            Refusal::PlanEnded { length } => {
-                write!(f, "the plan ends too early, after {length} words")
-            }
-            Refusal::Count { word } => write!(
+            Refusal::PlanEnded { length } => write!(f, "the plan ends too early, after {length} words"),
+            Refusal::Count { word }
+            | Refusal::Parent { word }
+            | Refusal::Node { word }
+            | Refusal::Transition { word }
+            | Refusal::WordsLeft { word } => write!(f, "word {word} of the plan{}", wrong_word(*self, word)),
+            Refusal::Numbers => write!(f, "there are not exactly as many numbers as the plan says"),
+            Refusal::Parameter => write!(f, "there is no such parameter: they are numbered 0 to 31"),
+            Refusal::State => write!(f, "the figure lacks the state that the player is in or on its way to"),
+            Refusal::Output => write!(f, "the output is too short: a frame writes 16 floats a joint"),
+            Refusal::Line { line } => write!(
                 f,
-                "word {word} of the plan is out of range: {}",
-                range(word)
+                "line {line} of the text is malformed, missing or one too many, or has a count above its limit"
             ),
-            Refusal::Parent { word } => {
-                let joint = word.saturating_sub(HEADER);
-                write!(f, "word {word} of the plan, the parent of joint {joint}, is neither 255 nor an earlier joint")
-            }
-            Refusal::Node { word } => {
-                write!(f, "word {word} of the plan is wrong in a node, or counts nodes of which one is not used")
-            }
-            Refusal::Transition { word } => {
-                write!(f, "word {word} of the plan is wrong in a transition")
-            }
-            Refusal::WordsLeft { word } => write!(
-                f,
-                "word {word} of the plan is one too many: the last state ended"
-            ),
-            Refusal::Numbers => {
-                f.write_str("there are not exactly as many numbers as the plan says")
-            }
-            Refusal::Parameter => {
-                f.write_str("there is no such parameter: they are numbered 0 to 31")
-            }
-            Refusal::State => {
-                f.write_str("the player is in a state, or on its way to one, that the figure lacks")
-            }
-            Refusal::Output => {
-                f.write_str("the output is too short: a frame writes 16 floats a joint")
-            }
-            Refusal::Line { line } => {
-                write!(f, "line {line} of the text is malformed, missing or one too many, or has a count above its limit")
-            }
-            Refusal::Slices => {
-                f.write_str("the slices are too short for the text's plan and numbers")
-            }
-            Refusal::Other { place, .. } => {
-                write!(f, "unknown to this version of the crate, at place {place}")
-            }
+            Refusal::Slices => write!(f, "the slices are too short for the text's plan and numbers"),
+            Refusal::Other { place, .. } => write!(f, "unknown to this version of the crate, at place {place}"),
         }
     }
 }

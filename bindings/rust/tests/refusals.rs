@@ -192,6 +192,26 @@ fn eight_a_parameter() {
     assert_eq!(player, before);
 }
 
+/// That a frame of either kind is refused so, with an output of this length, and writes nothing.
+fn expect_no_frame(player: &mut Player, figure: &Figure, length: usize, number: usize, text: &str) {
+    let before = player.clone();
+    let mut output = vec![9.0; length];
+    expect(
+        player.frame(figure, 0.0, &mut output).expect_err(text),
+        number,
+        0,
+        text,
+    );
+    expect(
+        player.page_frame(figure, 0.0, &mut output).expect_err(text),
+        number,
+        0,
+        text,
+    );
+    assert!(output.iter().all(|x| *x == 9.0));
+    assert_eq!(*player, before);
+}
+
 #[test]
 fn nine_a_state_before_ten() {
     let (plan, numbers) = two_states();
@@ -203,40 +223,29 @@ fn nine_a_state_before_ten() {
             duration: 1.0,
         })
     };
-    for (state, transition) in [
+    let absent = [
         (2, None),
         (usize::MAX, None),
         (0, to(2)),
         (0, to(usize::MAX)),
         (7, to(1)),
-    ] {
+    ];
+    for (state, transition) in absent {
         let parts = PlayerParts {
             state,
             transition,
             ..figure.start().parts()
         };
-        let mut player = Player::from_parts(&parts);
         for length in [0, figure.output_len()] {
-            let mut output = vec![9.0; length];
-            expect(
-                player
-                    .frame(&figure, 0.0, &mut output)
-                    .expect_err("no state"),
+            let mut player = Player::from_parts(&parts);
+            expect_no_frame(
+                &mut player,
+                &figure,
+                length,
                 9,
-                0,
-                "figure lacks",
+                "the figure lacks the state",
             );
-            expect(
-                player
-                    .page_frame(&figure, 0.0, &mut output)
-                    .expect_err("no state"),
-                9,
-                0,
-                "figure lacks",
-            );
-            assert!(output.iter().all(|x| *x == 9.0));
         }
-        assert_eq!(player, Player::from_parts(&parts));
     }
 }
 
@@ -244,26 +253,15 @@ fn nine_a_state_before_ten() {
 fn ten_the_output() {
     let (plan, numbers) = two_states();
     let figure = Figure::new(plan, numbers).expect("two states");
-    let mut player = figure.start();
     for length in [0, 16, figure.output_len() - 1] {
-        let mut output = vec![9.0; length];
-        expect(
-            player.frame(&figure, 0.0, &mut output).expect_err("short"),
+        expect_no_frame(
+            &mut figure.start(),
+            &figure,
+            length,
             10,
-            0,
             "16 floats a joint",
         );
-        expect(
-            player
-                .page_frame(&figure, 0.0, &mut output)
-                .expect_err("short"),
-            10,
-            0,
-            "16 floats a joint",
-        );
-        assert!(output.iter().all(|x| *x == 9.0));
     }
-    assert_eq!(player, figure.start());
 }
 
 #[test]

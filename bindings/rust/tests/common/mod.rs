@@ -97,44 +97,46 @@ fn tree(random: &mut Random, leaves: usize, clips: usize, parameters: usize) -> 
     nodes
 }
 
+/// The words of a random state, and how many transitions it has.
+fn state(random: &mut Random, clips: usize, parameters: usize, states: usize) -> (Vec<u16>, usize) {
+    // Without a parameter there is nothing to blend or to wait for.
+    let leaves = if parameters == 0 {
+        1
+    } else {
+        random.between(1, 16)
+    };
+    let transitions = if parameters == 0 { 0 } else { random.below(4) };
+    let nodes = tree(random, leaves, clips, parameters);
+    let mut words = vec![nodes.len() as u16];
+    words.extend(nodes.iter().flatten());
+    words.push(transitions as u16);
+    for _ in 0..transitions {
+        let transition = [
+            random.below(parameters),
+            random.below(6),
+            random.below(states),
+        ];
+        words.extend(transition.map(|word| word as u16));
+    }
+    (words, transitions)
+}
+
 /// A random figure that a start accepts.
 pub fn random_figure(random: &mut Random) -> Figure {
     let joints = *random.pick(&[1, 2, 3, 31, 32, 33, 64]);
-    let clips = random.between(1, 3);
-    let parameters = random.below(4);
-    let states = random.between(1, 4);
-    let initial = random.below(states);
-    let mut plan: Vec<u16> = [joints, clips, parameters, states, initial]
-        .map(|w| w as u16)
-        .to_vec();
+    let (clips, parameters, states) = (random.between(1, 3), random.below(4), random.between(1, 4));
+    let header = [joints, clips, parameters, states, random.below(states)];
+    let mut plan: Vec<u16> = header.map(|word| word as u16).to_vec();
     for joint in 0..joints {
         let parent = random.below(joint + 1);
         plan.push(if parent == joint { 255 } else { parent as u16 });
     }
     let samples: Vec<usize> = (0..clips).map(|_| random.between(1, 4)).collect();
-    plan.extend(samples.iter().map(|n| *n as u16));
+    plan.extend(samples.iter().map(|count| *count as u16));
     let mut count = clips + 8 * joints * samples.iter().sum::<usize>();
     for _ in 0..states {
-        let leaves = if parameters == 0 {
-            1
-        } else {
-            random.between(1, 16)
-        };
-        let nodes = tree(random, leaves, clips, parameters);
-        plan.push(nodes.len() as u16);
-        plan.extend(nodes.iter().flatten());
-        let transitions = if parameters == 0 { 0 } else { random.below(4) };
-        plan.push(transitions as u16);
-        for _ in 0..transitions {
-            plan.extend(
-                [
-                    random.below(parameters),
-                    random.below(6),
-                    random.below(states),
-                ]
-                .map(|w| w as u16),
-            );
-        }
+        let (words, transitions) = state(random, clips, parameters, states);
+        plan.extend(words);
         count += 2 * transitions;
     }
     let numbers = (0..count).map(|_| random.float()).collect();
