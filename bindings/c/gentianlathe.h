@@ -6,8 +6,8 @@
  *
  * A figure is a plan (16-bit words: joints, clips, blend trees, transitions) with its numbers (rates,
  * values, durations and poses); docs/FORMAT.md says what they hold. A player is what moves: clock, speed,
- * state, parameters. Every call answers on every content of what it is lent, and first of all checks it:
- * there is no content that makes a call undefined. A host promises only this about its pointers:
+ * state, parameters. Every call answers on every content of what it is lent; none makes it undefined.
+ * A host promises only this about its pointers:
  *
  *   - not null and aligned for their type, also where the length beside them is 0;
  *   - valid for as many elements as that length says, to be read or, where not const, to be written;
