@@ -1,0 +1,235 @@
+/*
+ * A small host in C: reads a figure's text, starts it, shows frames.
+ *
+ *     example [FIGURE [SECONDS [PARAMETER VALUE]]]
+ *
+ * FIGURE is a file with a figure's text (default: examples/printed.figure, from the repository's folder).
+ * The first frame right after the start is printed as the program gentianlathe prints it, with ext 0. Where
+ * SECONDS are given the player is then updated by them, the parameter takes its value if one is named, and
+ * a second frame is printed.
+ *
+ * A refusal is printed as `refused,number,place`, and put in words on standard error.
+ * Exit status: 0 shown, 1 refused, 2 something else went wrong (usage, file, memory, a foreign archive).
+ */
+#include "gentianlathe.h"
+
+#include <errno.h>
+#include <stdio.h>
+#include <stdlib.h>
+#include <string.h>
+
+enum { SHOWN = 0, REFUSED = 1, FAILED = 2 };
+
+typedef struct {
+    uint8_t *bytes;
+    size_t length;
+} text;
+
+typedef struct {
+    uint16_t *plan;
+    size_t words;
+    float *numbers;
+    size_t count;
+} figure;
+
+typedef struct {
+    const char *path;
+    int again; /* whether a second frame is asked for */
+    double seconds;
+    int sets; /* whether a parameter is to be set */
+    size_t parameter;
+    float value;
+} options;
+
+/* malloc may give null for 0 bytes, and the library wants a pointer for a length of 0 too. */
+static void *allocate(size_t count, size_t size)
+{
+    void *memory = count > SIZE_MAX / size ? NULL : malloc(count == 0 ? size : count * size);
+    if (memory == NULL) {
+        fprintf(stderr, "example: not enough memory\n");
+        exit(FAILED);
+    }
+    return memory;
+}
+
+static const char *meaning(size_t number)
+{
+    static const char *const meanings[] = {
+        "accepted",
+        "the plan ends too early; the place is its length",
+        "a count or the initial state is out of range, or there is a 65th clip node; the place is a word of the plan",
+        "a parent is neither 255 nor an earlier joint; the place is a word of the plan",
+        "a node's word is wrong, or a node is unused; the place is a word of the plan",
+        "a transition's word is wrong; the place is a word of the plan",
+        "the plan goes on after its last state; the place is the first word too much",
+        "there are not exactly as many numbers as the plan says",
+        "there is no parameter of this number: they are numbered 0 to 31",
+        "the player is in a state, or on the way to one, that the plan does not have",
+        "the output is too short",
+        "a line of the text is malformed, missing or too much, or has a count above its limit; the place is the line",
+        "the slices for plan and numbers are too short"
+    };
+    return number < sizeof meanings / sizeof meanings[0] ? meanings[number] : "unknown to this host";
+}
+
+static int refuse(size_t number, size_t place)
+{
+    printf("refused,%lu,%lu\n", (unsigned long)number, (unsigned long)place);
+    fprintf(stderr, "example: refused with %lu at %lu: %s\n", (unsigned long)number, (unsigned long)place,
+            meaning(number));
+    return REFUSED;
+}
+
+static int fail(const char *path)
+{
+    fprintf(stderr, "example: '%s' cannot be read: %s\n", path, strerror(errno));
+    return FAILED;
+}
+
+/* Reads the whole file: it grows the buffer, since not every file tells its length. */
+static int read_file(const char *path, text *read)
+{
+    size_t room = 65536;
+    FILE *file = fopen(path, "rb");
+    if (file == NULL)
+        return fail(path);
+    read->bytes = allocate(room, 1);
+    read->length = 0;
+    for (;;) {
+        read->length += fread(read->bytes + read->length, 1, room - read->length, file);
+        if (read->length < room)
+            break;
+        uint8_t *more = room > SIZE_MAX / 2 ? NULL : realloc(read->bytes, 2 * room);
+        if (more == NULL) {
+            errno = ENOMEM;
+            break;
+        }
+        read->bytes = more;
+        room *= 2;
+    }
+    int status = ferror(file) || read->length == room ? fail(path) : SHOWN;
+    fclose(file);
+    return status;
+}
+
+/* Reads the text into slices that hold any text of its length. */
+static int read_figure(const text *from, figure *read)
+{
+    size_t most_words = gentianlathe_most_words();
+    size_t most_numbers = gentianlathe_most_numbers(from->length);
+    read->plan = allocate(most_words, sizeof *read->plan);
+    read->numbers = allocate(most_numbers, sizeof *read->numbers);
+    gentianlathe_text_answer answer =
+        gentianlathe_read_text(from->bytes, from->length, read->plan, most_words, read->numbers, most_numbers);
+    if (answer.number != 0)
+        return refuse(answer.number, answer.place);
+    read->words = answer.words;
+    read->count = answer.numbers;
+    return SHOWN;
+}
+
+/* A float's bits, as the program prints them: every NaN alike. */
+static unsigned long printed_bits(float value)
+{
+    uint32_t bits;
+    memcpy(&bits, &value, sizeof bits);
+    return value != value ? 0x7fc00000ul : (unsigned long)bits;
+}
+
+static int show(const figure *shown, gentianlathe_player *player, float *output, size_t length)
+{
+    gentianlathe_answer answer = gentianlathe_frame(shown->plan, shown->words, shown->numbers, shown->count, player,
+                                                    0.0, output, length);
+    if (answer.number != 0)
+        return refuse(answer.number, answer.place);
+    for (size_t i = 0; i < length; i++) {
+        if (i % GENTIANLATHE_MATRIX == 0)
+            printf("joint,%lu", (unsigned long)(i / GENTIANLATHE_MATRIX));
+        printf(",%08lx", printed_bits(output[i]));
+        if (i % GENTIANLATHE_MATRIX == GENTIANLATHE_MATRIX - 1)
+            putchar('\n');
+    }
+    return SHOWN;
+}
+
+static int play(const figure *played, const options *asked)
+{
+    gentianlathe_player player;
+    gentianlathe_answer answer =
+        gentianlathe_start(played->plan, played->words, played->numbers, played->count, &player);
+    if (answer.number != 0)
+        return refuse(answer.number, answer.place);
+    size_t length = gentianlathe_output_length(played->plan, played->words);
+    float *output = allocate(length, sizeof *output);
+    int status = show(played, &player, output, length);
+    if (status == SHOWN && asked->again) {
+        gentianlathe_update(&player, asked->seconds);
+        if (asked->sets) {
+            answer = gentianlathe_set(&player, asked->parameter, asked->value);
+            status = answer.number == 0 ? SHOWN : refuse(answer.number, answer.place);
+        }
+        if (status == SHOWN)
+            status = show(played, &player, output, length);
+    }
+    free(output);
+    return status;
+}
+
+static int usage(void)
+{
+    fprintf(stderr, "usage: example [FIGURE [SECONDS [PARAMETER VALUE]]]\n");
+    return FAILED;
+}
+
+static int parse(int count, char **words, options *asked)
+{
+    char *end = NULL;
+    memset(asked, 0, sizeof *asked);
+    asked->path = count > 1 ? words[1] : "examples/printed.figure";
+    if (count == 4 || count > 5)
+        return usage();
+    if (count > 2) {
+        asked->again = 1;
+        asked->seconds = strtod(words[2], &end);
+        if (end == words[2] || *end != '\0')
+            return usage();
+    }
+    if (count > 4) {
+        asked->sets = 1;
+        asked->parameter = strtoul(words[3], &end, 10);
+        if (end == words[3] || *end != '\0' || words[3][0] == '-')
+            return usage();
+        asked->value = (float)strtod(words[4], &end);
+        if (end == words[4] || *end != '\0')
+            return usage();
+    }
+    return SHOWN;
+}
+
+int main(int count, char **words)
+{
+    options asked;
+    text from = {NULL, 0};
+    figure read = {NULL, 0, NULL, 0};
+    /* The header's layout is held to the archive's before anything is lent to it. */
+    if (gentianlathe_player_size() != sizeof(gentianlathe_player)) {
+        fprintf(stderr, "example: the archive's player has %lu bytes, the header's %lu: take both from one version\n",
+                (unsigned long)gentianlathe_player_size(), (unsigned long)sizeof(gentianlathe_player));
+        return FAILED;
+    }
+    int status = parse(count, words, &asked);
+    if (status == SHOWN)
+        status = read_file(asked.path, &from);
+    if (status == SHOWN)
+        status = read_figure(&from, &read);
+    if (status == SHOWN)
+        status = play(&read, &asked);
+    free(read.numbers);
+    free(read.plan);
+    free(from.bytes);
+    if (fflush(stdout) != 0 || ferror(stdout)) {
+        fprintf(stderr, "example: standard output cannot be written\n");
+        return FAILED;
+    }
+    return status;
+}

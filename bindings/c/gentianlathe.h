@@ -1,0 +1,165 @@
+/*
+ * gentianlathe.h: the C interface of Gentianlathe, the evaluator of a signing figure's animation.
+ *
+ * It belongs to the archive libcapi.a, which `rt staticlib capi` proves and writes for 64-bit x86.
+ * The header is C99 and C++. NOTICE has the licence of what was ported.
+ *
+ * A figure is a plan (16-bit words: joints, clips, blend trees, transitions) with its numbers (rates,
+ * values, durations and poses); docs/FORMAT.md says what they hold. A player is what moves: clock, speed,
+ * state, parameters. Every call answers on every content of what it is lent; none makes it undefined.
+ * A host promises only this about its pointers:
+ *
+ *   - not null and aligned for their type, also where the length beside them is 0;
+ *   - valid for as many elements as that length says, to be read or, where not const, to be written;
+ *   - what one pointer of a call spans does not overlap what another spans.
+ *
+ * The library allocates nothing and keeps nothing between calls. So it has no handle to close, and several
+ * threads may call it at once, each with its own player and output; plan and numbers may be shared. A stack of
+ * 64 KiB is enough for any call.
+ *
+ * Floats are IEEE 754. All NaNs count as one: which payload and sign a NaN in an output or in a player
+ * has is not promised.
+ */
+#ifndef GENTIANLATHE_H
+#define GENTIANLATHE_H
+
+#include <stddef.h>
+#include <stdint.h>
+
+#ifdef __cplusplus
+extern "C" {
+#endif
+
+/* A player has 32 parameters and 64 clip instances of three floats each; a matrix has 16 floats. */
+#define GENTIANLATHE_PARAMETERS 32
+#define GENTIANLATHE_INSTANCES 64
+#define GENTIANLATHE_MATRIX 16
+
+/*
+ * A player. It is plain data: copy it by assignment, save and restore it, read it as you like. Any content
+ * is taken; one that no figure has is at most refused by a frame (number 9).
+ *
+ * A start makes one. A start that is refused makes the blank one: clock 0, speed 1, state 0, idle, all
+ * parameters 0, all clip instances at start 0, rate 1, offset 0.
+ *
+ * Use a player with the figure that it was started with. Another figure does no harm, but takes the
+ * numbers that it finds here for its own.
+ */
+typedef struct gentianlathe_player {
+    double clock;      /* seconds played */
+    double speed;      /* by how much the clock grows in a second: 1 where nothing was set */
+    size_t state;      /* number of the current state, from 0 */
+    size_t running;    /* 0: idle; anything else: in a transition. Calls write 0 or 1 */
+    double start;      /* a transition's start, in seconds of clock + ext ... */
+    size_t target;     /* ... the number of the state that it leads to ... */
+    float duration;    /* ... and its seconds. Idle, these three mean nothing, and calls write zeros */
+    float parameters[GENTIANLATHE_PARAMETERS];
+    float instances[3 * GENTIANLATHE_INSTANCES]; /* start, rate, offset of clip node 0 of the plan, of 1, .. */
+} gentianlathe_player;
+
+/* No host is compiled with another layout than the archive's. gentianlathe_player_size() tells the archive's. */
+typedef char gentianlathe_player_has_952_bytes[sizeof(gentianlathe_player) == 952 ? 1 : -1];
+
+/*
+ * An answer. Number 0 is the acceptance, and place is then 0. Any other number is a refusal; where more
+ * than one applies, the first in this order of checks is told:
+ *
+ *   number  what is wrong                                                            place
+ *   1       the plan ends too early                                                  its length
+ *   2       a count or the initial state is out of range, or a 65th clip node        that word (the node's kind)
+ *   3       a parent that is neither 255 nor an earlier joint                        that word
+ *   4       a node's word; or a node that nothing uses                               that word; K of the state
+ *   5       a transition's word                                                      that word
+ *   6       there are words after the last state                                     the first of them
+ *   7       not exactly as many numbers as the plan says                             0
+ *   8       a parameter number of 32 or above                                        0
+ *   9       the player's state, or its running transition's target, is not there     0
+ *   10      the output holds fewer than 16 floats a joint                            0
+ *   11      a line of text is malformed, missing, too much, or has too large a count that line, from 1
+ *   12      the plan or the numbers do not fit into the slices lent for them         0
+ *
+ * Words are counted from 0. A refused call writes nothing to an output, a plan or numbers, and leaves the
+ * player as it was, up to what means nothing: a running above 1 may become 1, and an idle player's start,
+ * target and duration may become 0. (A refused start is the exception: it stores the blank player.)
+ */
+typedef struct gentianlathe_answer {
+    size_t number;
+    size_t place;
+} gentianlathe_answer;
+
+/* A reading's answer: as above, and how many words and numbers were written; both 0 where refused. */
+typedef struct gentianlathe_text_answer {
+    size_t number;
+    size_t place;
+    size_t words;
+    size_t numbers;
+} gentianlathe_text_answer;
+
+/*
+ * Checks a figure and starts it: *player becomes a fresh player, in the plan's initial state.
+ * Refused with 1 to 7; *player is then the blank one. What *player held before does not matter.
+ */
+gentianlathe_answer gentianlathe_start(const uint16_t *plan, size_t plan_length,
+                                       const float *numbers, size_t numbers_length,
+                                       gentianlathe_player *player);
+
+/* Moves the player's clock on by delta seconds times its speed. Never refused, whatever delta is. */
+void gentianlathe_update(gentianlathe_player *player, double delta);
+
+/* Gives the player another speed. Never refused, whatever it is. */
+void gentianlathe_speed(gentianlathe_player *player, double speed);
+
+/*
+ * Gives a parameter another value, any float. Refused with 8 from parameter 32 on; the player then stays.
+ * A parameter below 32 that the plan does not read is taken as well, and has no effect.
+ */
+gentianlathe_answer gentianlathe_set(gentianlathe_player *player, size_t parameter, float value);
+
+/*
+ * Shows a frame at clock + ext: at most one step of the transitions, then the matrix of each joint, 16 floats
+ * by rows and the joints one after another, at the front of output. The player moves with it (a transition
+ * begins or ends, clip instances are synchronised). Floats of output behind the last joint's stay as they are.
+ *
+ * Refused with 1 to 7 for the figure, which is checked anew at each frame; with 9 for the player; with 10 for
+ * an output shorter than gentianlathe_output_length(). Player and output then stay.
+ */
+gentianlathe_answer gentianlathe_frame(const uint16_t *plan, size_t plan_length,
+                                       const float *numbers, size_t numbers_length,
+                                       gentianlathe_player *player, double ext,
+                                       float *output, size_t output_length);
+
+/* The same, but that the upper 3x3 of each matrix is transposed in the end. Refused likewise. */
+gentianlathe_answer gentianlathe_page_frame(const uint16_t *plan, size_t plan_length,
+                                            const float *numbers, size_t numbers_length,
+                                            gentianlathe_player *player, double ext,
+                                            float *output, size_t output_length);
+
+/*
+ * Reads a figure's text. Accepted, the front of both slices holds plan and numbers, the answer tells how much
+ * of them, and what follows stays. Refused with 11 for the text, then with 12 for the slices; both then stay.
+ * The text need not end with a zero byte, and may hold some: they are bytes like others, and malformed.
+ *
+ * Slices of gentianlathe_most_words() words and gentianlathe_most_numbers(text_length) numbers are never
+ * refused. That a text can be read does not yet make it a figure: gentianlathe_start tells.
+ */
+gentianlathe_text_answer gentianlathe_read_text(const uint8_t *text, size_t text_length,
+                                                uint16_t *plan, size_t plan_length,
+                                                float *numbers, size_t numbers_length);
+
+/* Bytes of the archive's player. Hold sizeof(gentianlathe_player) to it before the first call. */
+size_t gentianlathe_player_size(void);
+
+/* Floats that a frame of this plan writes, 16 a joint by the plan's first word; 0 for an empty plan. */
+size_t gentianlathe_output_length(const uint16_t *plan, size_t plan_length);
+
+/* Words of the longest plan that a text can have. */
+size_t gentianlathe_most_words(void);
+
+/* The most numbers that a text of so many bytes can have. It can be 0: lend a pointer all the same. */
+size_t gentianlathe_most_numbers(size_t text_length);
+
+#ifdef __cplusplus
+}
+#endif
+
+#endif
