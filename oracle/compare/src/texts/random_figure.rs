@@ -35,6 +35,15 @@ pub fn figure(generator: &mut Generator) -> Draft {
     draft
 }
 
+/// A figure in which no fault is put. The start takes it, if it has not a 65th clip node by chance.
+pub fn accepted(generator: &mut Generator) -> Draft {
+    let style = generator.pick(&STYLES);
+    let mut draft = good(generator, style);
+    let poses = (0..draft.pose_count()).map(|_| pose(generator, style));
+    draft.poses = poses.collect();
+    draft
+}
+
 /// From 1 to `usual`, seldom to `most`.
 fn count(generator: &mut Generator, usual: u64, most: u64) -> u16 {
     let limit = if generator.below(16) == 0 {
