@@ -31,18 +31,25 @@ const SPECIAL_DOUBLES: [f64; 18] = [
 pub enum Calls {
     /// Steps of a screen that shows the figure.
     Sensible,
-    /// Some arguments are special or any pattern.
+    /// Few times are special or any pattern.
+    Sparse,
+    /// Half of them are.
     Wild,
 }
 
+impl Calls {
+    pub const ALL: [Calls; 3] = [Calls::Sensible, Calls::Sparse, Calls::Wild];
+}
+
 pub fn double(generator: &mut Generator, calls: Calls) -> u64 {
-    let wild = match calls {
-        Calls::Sensible => 0,
-        Calls::Wild => generator.below(4),
+    let among = match calls {
+        Calls::Sensible => return sensible(generator).to_bits(),
+        Calls::Sparse => 40,
+        Calls::Wild => 4,
     };
-    match wild {
-        2 => generator.pick(&SPECIAL_DOUBLES).to_bits(),
-        3 => generator.next(),
+    match generator.below(among) {
+        0 => generator.pick(&SPECIAL_DOUBLES).to_bits(),
+        1 => generator.next(),
         _ => sensible(generator).to_bits(),
     }
 }
@@ -60,10 +67,10 @@ fn sensible(generator: &mut Generator) -> f64 {
 /// A value for a parameter: often one that a transition of the figure compares with.
 pub fn value(generator: &mut Generator, draft: &Draft) -> u32 {
     let all = || draft.states.iter().flat_map(|state| &state.transitions);
-    match generator.below(5) {
+    match generator.below(20) {
         0 => generator.next() as u32,
         1 => generator.pick(&SPECIAL),
-        2 => {
+        2..=6 => {
             let count = all().count().max(1) as u64;
             let chosen = all().nth(generator.below(count) as usize);
             chosen.map_or(0, |transition| transition.numbers[0])
@@ -86,7 +93,7 @@ fn parameter(generator: &mut Generator, draft: &Draft) -> usize {
 pub fn length(generator: &mut Generator, draft: &Draft) -> usize {
     let needed = 16 * draft.parents.len();
     match generator.below(24) {
-        0 => 0,
+        0 => generator.pick(&[0, 0, 1, 15, 65535]),
         1 | 2 => needed.saturating_sub(1 + generator.below(3) as usize),
         3..=6 => needed + generator.below(40) as usize,
         _ => needed,

@@ -105,6 +105,10 @@ impl Reference {
         Ok(matrices.into_iter().map(page_matrix).collect())
     }
 
+    pub fn is_running(&self) -> bool {
+        fields(&self.controller).transition.is_some()
+    }
+
     /// The player that the controller holds.
     pub fn player(&self) -> Player {
         let fields = fields(&self.controller);

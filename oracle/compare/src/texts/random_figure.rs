@@ -15,6 +15,8 @@ pub enum Numbers {
     Pattern,
     /// Each number by one of the above.
     Mixed,
+    /// Sensible, with few others among them, which then show what they do.
+    Sparse,
 }
 
 const STYLES: [Numbers; 4] = [
@@ -35,9 +37,21 @@ pub fn figure(generator: &mut Generator) -> Draft {
     draft
 }
 
+/// Where a number is NaN, so is much that comes of it: most figures are to show more than that.
+const MOSTLY_SENSIBLE: [Numbers; 8] = [
+    Numbers::Sensible,
+    Numbers::Sensible,
+    Numbers::Sensible,
+    Numbers::Sparse,
+    Numbers::Sparse,
+    Numbers::Special,
+    Numbers::Pattern,
+    Numbers::Mixed,
+];
+
 /// A figure in which no fault is put. The start takes it, if it has not a 65th clip node by chance.
 pub fn accepted(generator: &mut Generator) -> Draft {
-    let style = generator.pick(&STYLES);
+    let style = generator.pick(&MOSTLY_SENSIBLE);
     let mut draft = good(generator, style);
     let poses = (0..draft.pose_count()).map(|_| pose(generator, style));
     draft.poses = poses.collect();
@@ -179,20 +193,33 @@ pub fn number(generator: &mut Generator, style: Numbers) -> u32 {
             let style = generator.pick(&STYLES[..3]);
             number(generator, style)
         }
+        Numbers::Sparse => {
+            let style = match generator.below(32) {
+                0 => Numbers::Special,
+                1 => Numbers::Pattern,
+                _ => Numbers::Sensible,
+            };
+            number(generator, style)
+        }
     }
 }
 
 /// Masks a sensible rate's sign.
 fn positive(style: Numbers) -> u32 {
     match style {
-        Numbers::Sensible => 0x7fff_ffff,
+        Numbers::Sensible | Numbers::Sparse => 0x7fff_ffff,
         _ => 0xffff_ffff,
     }
 }
 
 pub fn pose(generator: &mut Generator, style: Numbers) -> [u32; 8] {
     let mut words = [(); 8].map(|_| number(generator, style));
-    if let Numbers::Sensible = style {
+    let keeps_unit = match style {
+        Numbers::Sensible => true,
+        Numbers::Sparse => generator.below(16) > 0,
+        _ => false,
+    };
+    if keeps_unit {
         let rotation = generator.unit_quaternion().map(f32::to_bits);
         words[4..].copy_from_slice(&rotation);
     }

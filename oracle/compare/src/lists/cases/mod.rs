@@ -64,7 +64,7 @@ fn random() -> Vec<List> {
     let mut lists = Vec::new();
     while lists.len() < 12 {
         let draft = accepted(&mut generator);
-        let kind = generator.pick(&[Calls::Sensible, Calls::Wild]);
+        let kind = generator.pick(&Calls::ALL);
         let calls: Vec<Call> = (0..24)
             .map(|_| call(&mut generator, &draft, kind))
             .filter(|call| call.has_text())

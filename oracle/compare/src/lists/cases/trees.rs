@@ -78,13 +78,13 @@ pub fn trees() -> Vec<List> {
             "chain",
             "31 nodes, each over the one before",
             alone(&chain()),
-            &values[1..4],
+            &[0.5, 0.75, 0.25],
         ),
         list(
             "mixed",
             "clip nodes in another order than in their tree",
             alone(&mixed()),
-            &values[1..4],
+            &[0.5, 0.75, 0.25],
         ),
         list(
             "full",
