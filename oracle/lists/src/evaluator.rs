@@ -2,6 +2,7 @@
 
 use compare::reference::player::{Player, Running, INSTANCES, PARAMETERS};
 use compare::texts::figure::Refusal;
+use std::fmt;
 
 /// A player in a host's memory. Where `running` is 0, the next three fields mean nothing.
 #[repr(C)]
@@ -20,14 +21,14 @@ pub struct FlatPlayer {
 
 /// 0 as number is the acceptance.
 #[repr(C)]
-#[derive(Clone, Copy, Debug, PartialEq, Eq)]
+#[derive(Clone, Copy, PartialEq, Eq)]
 pub struct Answer {
     pub number: usize,
     pub place: usize,
 }
 
 #[repr(C)]
-#[derive(Clone, Copy, Debug, PartialEq, Eq)]
+#[derive(Clone, Copy, PartialEq, Eq)]
 pub struct TextAnswer {
     pub number: usize,
     pub place: usize,
@@ -80,6 +81,30 @@ impl Answer {
 
     pub fn is_accepted(self) -> bool {
         self.number == 0
+    }
+}
+
+impl fmt::Debug for Answer {
+    fn fmt(&self, f: &mut fmt::Formatter) -> fmt::Result {
+        match *self {
+            Answer {
+                number: 0,
+                place: 0,
+            } => write!(f, "ok"),
+            Answer { number, place } => write!(f, "refused,{number},{place}"),
+        }
+    }
+}
+
+impl fmt::Debug for TextAnswer {
+    fn fmt(&self, f: &mut fmt::Formatter) -> fmt::Result {
+        let (words, numbers) = (self.words, self.numbers);
+        let (number, place) = (self.number, self.place);
+        write!(
+            f,
+            "{:?} with {words} words and {numbers} numbers",
+            Answer { number, place }
+        )
     }
 }
 

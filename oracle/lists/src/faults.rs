@@ -10,7 +10,7 @@ pub enum Fault {
     NeighbourSet,
     SetKeepsOldValue,
     SetAcceptsTooMuch,
-    StatePlace,
+    StartPlace,
     StartNotBlank,
     StartForgetsRates,
     StateKept,
@@ -27,19 +27,20 @@ pub enum Fault {
     PageNotTransposed,
     NineForTen,
     FrameRefused,
+    FramePlace,
     TextPlace,
     TextRefusedWrites,
     TextCount,
 }
 
 impl Fault {
-    pub const ALL: [Fault; 25] = [
+    pub const ALL: [Fault; 26] = [
         Fault::ClockWithoutSpeed,
         Fault::SpeedLost,
         Fault::NeighbourSet,
         Fault::SetKeepsOldValue,
         Fault::SetAcceptsTooMuch,
-        Fault::StatePlace,
+        Fault::StartPlace,
         Fault::StartNotBlank,
         Fault::StartForgetsRates,
         Fault::StateKept,
@@ -56,6 +57,7 @@ impl Fault {
         Fault::PageNotTransposed,
         Fault::NineForTen,
         Fault::FrameRefused,
+        Fault::FramePlace,
         Fault::TextPlace,
         Fault::TextRefusedWrites,
         Fault::TextCount,
@@ -116,7 +118,7 @@ impl Evaluator for Faulty<'_> {
     fn start(&self, plan: &[u16], numbers: &[f32], player: &mut FlatPlayer) -> Answer {
         let before = *player;
         let mut answer = self.library.start(plan, numbers, player);
-        if !answer.is_accepted() && self.has(Fault::StatePlace) {
+        if !answer.is_accepted() && self.has(Fault::StartPlace) {
             answer.place += usize::from(answer.number == 4);
         }
         if !answer.is_accepted() && self.has(Fault::StartNotBlank) {
@@ -181,6 +183,7 @@ impl Evaluator for Faulty<'_> {
         }
         match self.fault {
             Fault::FrameRefused if ext.is_nan() => answer.number = 10,
+            Fault::FramePlace if answer.number == 3 => answer.place += 1,
             Fault::NineForTen if answer.number == 9 => answer.number = 10,
             Fault::RefusedFrameWrites if answer.number == 10 => output.fill(0.0),
             Fault::RefusedFrameMoves if !answer.is_accepted() => player.clock += ext,

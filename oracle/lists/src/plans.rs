@@ -47,7 +47,7 @@ fn place(generator: &mut Generator, length: usize) -> usize {
 
 fn odd_word(generator: &mut Generator) -> u16 {
     match generator.below(8) {
-        0 => generator.next() as u16,
+        0 => generator.draw() as u16,
         _ => generator.pick(&ODD_WORDS),
     }
 }

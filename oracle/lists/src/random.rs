@@ -2,14 +2,20 @@
 
 use crate::evaluator::{Evaluator, FlatPlayer};
 use crate::plans::{self, random_plan, same_start};
-use crate::run::{run, same, Case, Counts, Mismatch};
+use crate::run::{run, run_steps, same, Case, Counts, Mismatch};
 use crate::shrink::shrunk;
-use crate::step::random_steps;
+use crate::step::{random_steps, Step};
 use crate::texts::{self, random_reading, same_reading};
 use compare::generator::Generator;
+use compare::lists::call::parsed;
+use compare::lists::recorded::lists;
+use compare::texts::printed::read;
 use compare::texts::random_figure::accepted;
 use std::path::Path;
 use std::{fs, io};
+
+/// How many cases are tried for one that can be replayed.
+const SOME_CASES: usize = 4000;
 
 /// How much is compared.
 #[derive(Clone, Copy)]
@@ -26,6 +32,8 @@ pub enum Found {
     List(Box<Case>),
     Plan(compare::texts::figure::Figure),
     Text(texts::Reading),
+    /// A recorded list, by its name.
+    Recorded(String, Mismatch),
     Size(String),
 }
 
@@ -33,6 +41,20 @@ pub fn random_case(generator: &mut Generator) -> Case {
     let draft = accepted(generator);
     let steps = random_steps(generator, &draft, random_plan);
     Case { draft, steps }
+}
+
+/// The recorded lists that can be read, through the library's calls.
+fn recorded(evaluator: &dyn Evaluator, counts: &mut Counts) -> Option<Found> {
+    for list in lists() {
+        let (Ok(figure), Ok(calls)) = (read(&list.figure), parsed(&list.calls)) else {
+            continue;
+        };
+        let steps: Vec<Step> = calls.into_iter().map(Step::Call).collect();
+        if let Some(mismatch) = run_steps(&figure, &steps, evaluator, counts) {
+            return Some(Found::Recorded(list.name, mismatch));
+        }
+    }
+    None
 }
 
 /// The first mismatch, and what was compared up to it.
@@ -65,7 +87,8 @@ pub fn compare(evaluator: &dyn Evaluator, amounts: Amounts, seed: u64) -> (Found
             return (Found::List(Box::new(case)), counts);
         }
     }
-    (Found::Nothing, counts)
+    let found = recorded(evaluator, &mut counts[0]);
+    (found.unwrap_or(Found::Nothing), counts)
 }
 
 /// Compares, and prints what was compared and the smallest form of what was found. A list goes into
@@ -86,11 +109,20 @@ pub fn random(
         refusals(&plans),
         refusals(&texts)
     );
-    match &found {
-        Found::Nothing => println!("lists: seed {seed}, no mismatch"),
+    print_found(&found, evaluator, folder)?;
+    Ok(matches!(found, Found::Nothing))
+}
+
+fn print_found(found: &Found, evaluator: &dyn Evaluator, folder: &Path) -> io::Result<()> {
+    match found {
+        Found::Nothing => println!("lists: no mismatch"),
         Found::List(case) => {
             let (case, mismatch) = shrunk(case, evaluator);
-            print_case(&case, &mismatch, folder)?;
+            let is_replayed = print_case(&case, &mismatch, folder)?;
+            if let Some(other) = (!is_replayed).then(|| by_calls(evaluator)).flatten() {
+                let (case, mismatch) = shrunk(&other, evaluator);
+                print_case(&case, &mismatch, folder)?;
+            }
         }
         Found::Plan(figure) => {
             let (least, what) = plans::smallest(figure, evaluator);
@@ -105,9 +137,24 @@ pub fn random(
             println!("{}", least.text.escape_ascii());
             println!("mismatch in {what}");
         }
+        Found::Recorded(name, Mismatch { step, what }) => {
+            println!("recorded list {name}, mismatch after call {step}\nin {what}");
+        }
         Found::Size(what) => println!("mismatch in {what}"),
     }
-    Ok(matches!(found, Found::Nothing))
+    Ok(())
+}
+
+/// A case that shows some mismatch by calls alone, which a host can replay from files.
+fn by_calls(evaluator: &dyn Evaluator) -> Option<Case> {
+    let mut generator = Generator::new(0);
+    let plain = |mut case: Case| {
+        case.steps.retain(|step| step.has_text());
+        case
+    };
+    (0..SOME_CASES)
+        .map(|_| plain(random_case(&mut generator)))
+        .find(|case| run(case, evaluator, &mut Counts::default()).is_some())
 }
 
 fn refusals(counts: &Counts) -> String {
@@ -134,7 +181,8 @@ fn sentence(counts: &Counts) -> String {
     )
 }
 
-fn print_case(case: &Case, mismatch: &Mismatch, folder: &Path) -> io::Result<()> {
+/// Prints the case, and writes it to files where it can be replayed from these.
+fn print_case(case: &Case, mismatch: &Mismatch, folder: &Path) -> io::Result<bool> {
     let figure = case.draft.text();
     let steps: String = case.steps.iter().map(|step| step.line()).collect();
     println!(
@@ -144,7 +192,7 @@ fn print_case(case: &Case, mismatch: &Mismatch, folder: &Path) -> io::Result<()>
     println!("in {}", mismatch.what);
     if !case.steps.iter().all(|step| step.has_text()) {
         println!("lists: what stands in brackets cannot be replayed from files");
-        return Ok(());
+        return Ok(false);
     }
     fs::create_dir_all(folder)?;
     let [figure_file, calls_file] = ["mismatch.figure", "mismatch.calls"].map(|f| folder.join(f));
@@ -157,5 +205,5 @@ fn print_case(case: &Case, mismatch: &Mismatch, folder: &Path) -> io::Result<()>
             calls_file.display()
         );
     }
-    Ok(())
+    Ok(true)
 }

@@ -42,13 +42,20 @@ pub struct Counts {
 
 /// The case's first difference.
 pub fn run(case: &Case, evaluator: &dyn Evaluator, counts: &mut Counts) -> Option<Mismatch> {
-    let figure = case.draft.figure();
+    run_steps(&case.draft.figure(), &case.steps, evaluator, counts)
+}
+
+pub fn run_steps(
+    figure: &Figure,
+    steps: &[Step],
+    evaluator: &dyn Evaluator,
+    counts: &mut Counts,
+) -> Option<Mismatch> {
     counts.figures += 1;
-    let (mut run, started) = Run::start(evaluator, &figure, counts);
-    let mut done = started;
+    let (mut run, mut done) = Run::start(evaluator, figure, counts);
     let mut step = 0;
-    while done.is_ok() && step < case.steps.len() {
-        done = run.step(&case.steps[step]);
+    while done.is_ok() && step < steps.len() {
+        done = run.step(&steps[step]);
         step += 1;
     }
     done.err().map(|what| Mismatch { step, what })
@@ -246,8 +253,14 @@ pub fn same<T: PartialEq + std::fmt::Debug>(
 
 /// Says where two players differ.
 pub fn difference(expected: &Seen, actual: &Seen) -> String {
-    let lines = [expected, actual].map(|seen| player_line(seen).trim_end().to_string());
-    let mut checks = vec![same("the player", &lines[0], &lines[1])];
+    let [reference, library] = [expected, actual].map(player_line);
+    if reference != library {
+        return format!(
+            "the player\n  reference  {reference}  library    {}",
+            library.trim_end()
+        );
+    }
+    let mut checks = Vec::new();
     for (i, (a, b)) in expected
         .parameters
         .iter()
@@ -260,5 +273,5 @@ pub fn difference(expected: &Seen, actual: &Seen) -> String {
         checks.push(same(&format!("clip instance {i}"), a, b));
     }
     let first = checks.into_iter().find_map(Result::err);
-    first.unwrap_or_else(|| "the player".to_string())
+    first.unwrap_or_else(|| "fields without meaning".to_string())
 }

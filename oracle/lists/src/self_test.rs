@@ -37,6 +37,7 @@ fn judged(library: &dyn Evaluator, fault: Fault) -> Result<String, String> {
         }
         (Found::Plan(_), _) => Ok("a start".to_string()),
         (Found::Text(_), _) => Ok("a text".to_string()),
+        (Found::Recorded(name, _), _) => Ok(format!("recorded list {name}")),
         (Found::Size(_), _) => Err("a player's size".to_string()),
     }
 }

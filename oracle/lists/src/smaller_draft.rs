@@ -185,3 +185,39 @@ fn numbers(draft: &mut Draft) -> Vec<&mut u32> {
     }
     all
 }
+
+#[cfg(test)]
+mod tests {
+    use super::*;
+    use compare::generator::Generator;
+    use compare::texts::plan::check;
+    use compare::texts::random_figure::accepted;
+
+    #[test]
+    fn smaller_figures_are_accepted_too() {
+        let mut generator = Generator::new(6);
+        let drafts = (0..60).map(|_| accepted(&mut generator));
+        for draft in drafts.filter(|draft| check(&draft.figure()).is_ok()) {
+            for smaller in smaller_drafts(&draft) {
+                let size = |draft: &Draft| draft.figure().plan.len() + draft.pose_count();
+                assert!(check(&smaller.figure()).is_ok());
+                assert!(size(&smaller) < size(&draft));
+            }
+        }
+    }
+
+    #[test]
+    fn a_subtree_is_numbered_anew() {
+        let nodes = [
+            [0, 3, 0, 0],
+            [0, 4, 0, 0],
+            [0, 5, 0, 0],
+            [1, 2, 0, 7],
+            [2, 3, 1, 8],
+        ];
+        let cut = subtree(&nodes, 3);
+        assert_eq!(cut, [[0, 3, 0, 0], [0, 5, 0, 0], [1, 1, 0, 7]]);
+        assert_eq!(subtree(&nodes, 4), nodes);
+        assert_eq!(subtree(&nodes, 1), [nodes[1]]);
+    }
+}

@@ -98,7 +98,7 @@ pub fn random_steps(
 /// A state's number, most likely one that is there.
 fn state(generator: &mut Generator, draft: &Draft) -> usize {
     let states = draft.states.len();
-    let random = generator.next() as usize;
+    let random = generator.draw() as usize;
     match generator.below(8) {
         0 => generator.pick(&[states, states + 1, 255, 65536, usize::MAX, random]),
         _ => generator.below(states.max(1) as u64) as usize,

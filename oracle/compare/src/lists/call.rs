@@ -154,7 +154,7 @@ mod tests {
     fn every_call_is_read_as_it_was_written() {
         let mut generator = Generator::new(3);
         for _ in 0..2000 {
-            let bits = generator.next();
+            let bits = generator.draw();
             let number = generator.below(65536) as usize;
             for call in [
                 Call::Update(bits),

@@ -36,7 +36,13 @@ pub fn state(nodes: &[[u16; 4]], goes: &[Go]) -> State {
 /// A figure of so many joints, with clips of so many samples and such rates. Its poses are sensible.
 pub fn figure(joints: u16, clips: &[(u16, f32)], parameters: u16, states: Vec<State>) -> Draft {
     // A second root at every seventh joint; the others hang from the joint of half their number.
-    let parent = |joint: u16| if joint % 7 == 0 { 255 } else { joint / 2 };
+    let parent = |joint: u16| {
+        if joint.is_multiple_of(7) {
+            255
+        } else {
+            joint / 2
+        }
+    };
     let clip = |&(samples, rate): &(u16, f32)| Clip {
         samples,
         rate: rate.to_bits(),

@@ -49,7 +49,7 @@ pub fn double(generator: &mut Generator, calls: Calls) -> u64 {
     };
     match generator.below(among) {
         0 => generator.pick(&SPECIAL_DOUBLES).to_bits(),
-        1 => generator.next(),
+        1 => generator.draw(),
         _ => sensible(generator).to_bits(),
     }
 }
@@ -68,7 +68,7 @@ fn sensible(generator: &mut Generator) -> f64 {
 pub fn value(generator: &mut Generator, draft: &Draft) -> u32 {
     let all = || draft.states.iter().flat_map(|state| &state.transitions);
     match generator.below(20) {
-        0 => generator.next() as u32,
+        0 => generator.draw() as u32,
         1 => generator.pick(&SPECIAL),
         2..=6 => {
             let count = all().count().max(1) as u64;
@@ -84,7 +84,7 @@ fn parameter(generator: &mut Generator, draft: &Draft) -> usize {
     match generator.below(16) {
         0 => generator.below(32) as usize,
         1 => 32 + generator.below(3) as usize,
-        2 if generator.below(4) == 0 => generator.next() as usize,
+        2 if generator.below(4) == 0 => generator.draw() as usize,
         _ => generator.below(readable) as usize,
     }
 }

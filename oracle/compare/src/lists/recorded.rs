@@ -49,8 +49,12 @@ impl List {
     }
 }
 
+pub fn lists() -> Vec<List> {
+    cases()
+}
+
 fn files() -> (usize, Vec<u8>, String) {
-    let lists = cases();
+    let lists = lists();
     (
         lists.len(),
         lists.iter().flat_map(List::input).collect(),
@@ -88,7 +92,7 @@ pub fn check(stdin: &Path, stdout: &Path) -> io::Result<bool> {
 /// The lists by name, with what each is for, as a table.
 pub fn table() -> String {
     let mut table = "| list | shows |\n|---|---|\n".to_string();
-    for list in cases() {
+    for list in lists() {
         table += &format!("| {} | {} |\n", list.name, list.purpose);
     }
     table
@@ -101,10 +105,19 @@ mod tests {
 
     #[test]
     fn lists_are_many_and_have_names() {
-        let lists = cases();
+        let lists = lists();
         let names: BTreeSet<&str> = lists.iter().map(|list| &list.name[..]).collect();
         assert_eq!(names.len(), lists.len());
         assert!(lists.len() >= 40);
+    }
+
+    #[test]
+    fn the_page_beside_them_has_their_table() {
+        let page = concat!(
+            env!("CARGO_MANIFEST_DIR"),
+            "/../../crates/recorded_lists/README.md"
+        );
+        assert!(fs::read_to_string(page).unwrap().contains(&table()));
     }
 
     #[test]

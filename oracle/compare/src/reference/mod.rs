@@ -247,3 +247,6 @@ fn page_matrix(matrix: Matrix4<f32>) -> Matrix4<f32> {
     }
     page
 }
+
+#[cfg(test)]
+mod tests;

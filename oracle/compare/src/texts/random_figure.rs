@@ -28,7 +28,8 @@ const STYLES: [Numbers; 4] = [
 
 pub fn figure(generator: &mut Generator) -> Draft {
     let style = generator.pick(&STYLES);
-    let mut draft = good(generator, style);
+    let joints = count(generator, 3, 64);
+    let mut draft = good(generator, style, joints);
     if generator.below(3) == 0 {
         put_fault(generator, &mut draft);
     }
@@ -52,7 +53,9 @@ const MOSTLY_SENSIBLE: [Numbers; 8] = [
 /// A figure in which no fault is put. The start takes it, if it has not a 65th clip node by chance.
 pub fn accepted(generator: &mut Generator) -> Draft {
     let style = generator.pick(&MOSTLY_SENSIBLE);
-    let mut draft = good(generator, style);
+    let usual = generator.pick(&[3, 3, 3, 3, 3, 3, 3, 64]);
+    let joints = count(generator, usual, 64);
+    let mut draft = good(generator, style, joints);
     let poses = (0..draft.pose_count()).map(|_| pose(generator, style));
     draft.poses = poses.collect();
     draft
@@ -72,8 +75,7 @@ fn below(generator: &mut Generator, limit: u16) -> u16 {
     generator.below(u64::from(limit)) as u16
 }
 
-fn good(generator: &mut Generator, style: Numbers) -> Draft {
-    let joints = count(generator, 3, 64);
+fn good(generator: &mut Generator, style: Numbers, joints: u16) -> Draft {
     let mut draft = Draft {
         parameters: count(generator, 3, 33) - 1,
         parents: (0..joints).map(|joint| parent(generator, joint)).collect(),
@@ -188,7 +190,7 @@ pub fn number(generator: &mut Generator, style: Numbers) -> u32 {
     match style {
         Numbers::Sensible => generator.ordinary(),
         Numbers::Special => generator.pick(&SPECIAL),
-        Numbers::Pattern => generator.next() as u32,
+        Numbers::Pattern => generator.draw() as u32,
         Numbers::Mixed => {
             let style = generator.pick(&STYLES[..3]);
             number(generator, style)
@@ -229,7 +231,7 @@ pub fn pose(generator: &mut Generator, style: Numbers) -> [u32; 8] {
 /// A word at or beyond what is allowed below `limit`, most likely.
 fn odd_word(generator: &mut Generator, limit: usize) -> u16 {
     let limit = limit as u16;
-    let random = generator.next() as u16;
+    let random = generator.draw() as u16;
     generator.pick(&[limit, limit + 1, 0, 1, 2, 3, 254, 255, 256, 65535, random])
 }
 

@@ -17,16 +17,21 @@ const SEED: u64 = 0x5f37_59df;
 pub fn cases() -> Vec<List> {
     let groups = [
         trees::clips(),
-        trees::trees(),
+        trees::joins(),
+        trees::large_trees(),
         transitions::conditions(),
+        transitions::choices(),
         transitions::durations(),
-        transitions::steps_of_a_frame(),
-        players::times(),
+        transitions::rings(),
+        transitions::begun_by_hand(),
+        players::speeds(),
+        players::clocks(),
         players::parameters(),
         players::outputs(),
         players::numbers(),
         refused::starts(),
-        refused::unread(),
+        refused::unread_figures(),
+        refused::call_lists(),
         random(),
     ];
     groups.into_iter().flatten().collect()

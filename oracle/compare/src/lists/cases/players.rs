@@ -17,55 +17,46 @@ fn at_speeds(draft: &Draft, speeds: &[f64]) -> Vec<Call> {
     speeds.iter().flat_map(at).collect()
 }
 
-pub fn times() -> Vec<List> {
-    let draft = || going(1, &[(0, EQUAL, 1, 0.0, 2.0)]);
-    let list = |name: &str, purpose, speeds: &[f64]| {
-        List::new(name, purpose, &draft(), &at_speeds(&draft(), speeds))
+const SPEEDS: [(&str, &str, &[f64]); 7] = [
+    ("speed", "speeds of use", &[1.0, 2.0, 0.5, 0.25]),
+    ("speed-0", "a clock that stands still", &[0.0, -0.0, 1.0]),
+    (
+        "speed-negative",
+        "a clock that runs back",
+        &[-1.0, -0.5, 2.0],
+    ),
+    ("speed-nan", "then the clock is NaN too", &[f64::NAN, 1.0]),
+    (
+        "speed-infinite",
+        "infinite speeds",
+        &[1.0 / 0.0, -1.0 / 0.0, 0.0],
+    ),
+    (
+        "speed-huge",
+        "clocks without a float",
+        &[1e300, 1e308, 1e308],
+    ),
+    ("speed-tiny", "subnormal steps", &[5e-324, 1e-310, 1e-45]),
+];
+
+pub fn speeds() -> Vec<List> {
+    let list = |(name, purpose, speeds): (&str, &'static str, &[f64])| {
+        let draft = going(1, &[(0, EQUAL, 1, 0.0, 2.0)]);
+        List::new(name, purpose, &draft, &at_speeds(&draft, speeds))
     };
-    let bench = one_clip(1, 4, 1.0);
-    let frame = Call::frame(0.5, 16);
-    let bench_calls = [
-        Call::update(2.0),
-        Call::speed(3.0),
-        frame,
-        Call::page(0.5, 16),
-    ];
+    SPEEDS.into_iter().map(list).collect()
+}
+
+pub fn clocks() -> Vec<List> {
+    let clip = one_clip(1, 4, 1.0);
+    let shown = [Call::frame(0.5, 16), Call::page(0.5, 16)];
+    let bench = [vec![Call::update(2.0), Call::speed(3.0)], shown.to_vec()].concat();
     let lerp = joined(1, 1);
     let mut long = vec![Call::set(0, 0.375)];
     long.extend(steps(&lerp, 1.0 / 60.0, 150));
-    let inf = f64::INFINITY;
     vec![
-        list("speed", "speeds of a player's use", &[1.0, 2.0, 0.5, 0.25]),
-        list("speed-0", "a clock that stands still", &[0.0, -0.0, 1.0]),
-        list(
-            "speed-negative",
-            "a clock that runs back",
-            &[-1.0, -0.5, 2.0],
-        ),
-        list(
-            "speed-nan",
-            "a speed that is NaN, then the clock too",
-            &[f64::NAN, 1.0],
-        ),
-        list("speed-infinite", "infinite speeds", &[inf, -inf, 0.0]),
-        list(
-            "speed-huge",
-            "a clock beyond the floats of 32 bits, and of 64",
-            &[1e300, 1e308, 1e308],
-        ),
-        list("speed-tiny", "subnormal steps", &[5e-324, 1e-310, 1e-45]),
-        List::new(
-            "ext-and-speed",
-            "case k of the bench sheet: now 2.5, elapsed 3.5",
-            &bench,
-            &bench_calls,
-        ),
-        List::new(
-            "long",
-            "150 steps of a sixtieth, the clips synchronised in each",
-            &lerp,
-            &long,
-        ),
+        List::new("ext-and-speed", "case k of the bench sheet", &clip, &bench),
+        List::new("long", "150 steps of a sixtieth", &lerp, &long),
     ]
 }
 
@@ -81,12 +72,7 @@ pub fn parameters() -> Vec<List> {
     far.extend(swept(&last, 30, &[0.75]));
     let none = one_clip(1, 2, 1.0);
     vec![
-        List::new(
-            "set-all",
-            "every parameter set; refused from 32 on",
-            &lerp,
-            &all,
-        ),
+        List::new("set-all", "refused from 32 on", &lerp, &all),
         List::new("set-last", "parameters 30 and 31 are read", &last, &far),
         List::new(
             "set-unread",

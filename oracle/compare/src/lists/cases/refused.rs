@@ -24,125 +24,126 @@ fn calls() -> Vec<Call> {
     ]
 }
 
-/// The figure is changed before it is written.
-fn start(name: &str, purpose: &'static str, change: impl Fn(&mut Draft)) -> List {
-    let mut draft = going(2, &[(0, EQUAL, 1, 0.0, 1.0)]);
-    change(&mut draft);
-    draft.poses.truncate(draft.pose_count());
-    List::new(name, purpose, &draft, &calls())
-}
+/// A name, what is refused and why, and what is done to a good figure.
+type Wrong = (&'static str, &'static str, fn(&mut Draft));
+
+const STARTS: [Wrong; 10] = [
+    ("start-no-joints", "2: no joints", |d| d.parents.clear()),
+    ("start-no-states", "2: no states", |d| d.states.clear()),
+    ("start-no-samples", "2: no samples", |d| {
+        d.clips[1].samples = 0
+    }),
+    ("start-initial", "2: an initial state 2 of 2", |d| {
+        d.initial = 2
+    }),
+    ("start-parent", "3: a joint below itself", |d| {
+        d.parents[1] = 1
+    }),
+    ("start-node", "4: a clip 2 of 2", |d| {
+        d.states[1].nodes[0][1] = 2
+    }),
+    ("start-unused", "4: a node left unused", |d| {
+        d.states[0].nodes.push(CLIP)
+    }),
+    ("start-parameter", "5: parameter 0 of 0", |d| {
+        d.parameters = 0
+    }),
+    ("start-operator", "5: an operator 6", |d| {
+        d.states[0].transitions[0].words[1] = 6
+    }),
+    ("start-target", "5: a target 2 of 2", |d| {
+        d.states[0].transitions[0].words[2] = 2
+    }),
+];
 
 pub fn starts() -> Vec<List> {
+    let list = |(name, purpose, change): Wrong| {
+        let mut draft = going(2, &[(0, EQUAL, 1, 0.0, 1.0)]);
+        change(&mut draft);
+        draft.poses.truncate(draft.pose_count());
+        List::new(name, purpose, &draft, &calls())
+    };
+    let mut lists: Vec<List> = STARTS.into_iter().map(list).collect();
     let five = figure(1, &THREE, 4, vec![state(&mixed(), &[]); 5]);
-    vec![
-        start("start-no-joints", "2: no joints", |draft| {
-            draft.parents.clear()
-        }),
-        start("start-no-states", "2: no states", |draft| {
-            draft.states.clear()
-        }),
-        start("start-no-samples", "2: a clip without samples", |draft| {
-            draft.clips[1].samples = 0
-        }),
-        start(
-            "start-initial",
-            "2: an initial state that is not there",
-            |draft| draft.initial = 2,
-        ),
-        List::new(
-            "start-65-clip-nodes",
-            "2: a 65th clip node",
-            &five,
-            &calls(),
-        ),
-        start("start-parent", "3: a joint is its own parent", |draft| {
-            draft.parents[1] = 1
-        }),
-        start("start-node", "4: a clip that is not there", |draft| {
-            draft.states[1].nodes[0][1] = 2
-        }),
-        start("start-unused", "4: a node left unused", |draft| {
-            draft.states[0].nodes.push(CLIP)
-        }),
-        start(
-            "start-parameter",
-            "5: a parameter that is not readable",
-            |draft| draft.parameters = 0,
-        ),
-        start("start-operator", "5: an operator 6", |draft| {
-            draft.states[0].transitions[0].words[1] = 6
-        }),
-        start("start-target", "5: a target that is not there", |draft| {
-            draft.states[0].transitions[0].words[2] = 2
-        }),
-    ]
+    lists.push(List::new(
+        "start-65-clip-nodes",
+        "2: a 65th clip node",
+        &five,
+        &calls(),
+    ));
+    lists
 }
 
-pub fn unread() -> Vec<List> {
-    let draft = one_clip(1, 1, 1.0);
-    let good = text(&steps(&draft, 0.5, 2));
-    let refused = BLEND.replace("joint,255", "joint,0");
+pub fn unread_figures() -> Vec<List> {
+    let good = text(&calls());
     let longest = long_text(&mut Generator::new(1), LONGEST);
     let too_long = longest.clone() + "\n";
-    let malformed =
-        |name: &str, purpose, calls: String| List::raw(name, purpose, draft.text(), calls);
+    let list = |name: &str, purpose, figure: &str| List::raw(name, purpose, figure, good.clone());
+    let one_frame = text(&[Call::frame(0.5, 1024)]);
     vec![
-        List::raw("figure-empty", "11: no text at all", "", good.clone()),
+        list("figure-empty", "11: no text at all", ""),
+        list("figure-cut", "11: no LF at the end", BLEND.trim_end()),
+        list("figure-too-long", "13: 65,537 bytes", &too_long),
         List::raw(
-            "figure-cut",
-            "11: a text without its last LF",
-            BLEND.trim_end(),
-            good.clone(),
+            "figure-longest",
+            "65,536 bytes are read and played",
+            longest,
+            one_frame,
         ),
         List::raw(
             "figure-and-calls",
             "11 comes before a malformed list",
             "figure\n",
-            "calls",
-        ),
-        List::raw(
-            "figure-longest",
-            "65,536 bytes are read and played",
-            longest,
-            text(&[Call::frame(0.5, 1024)]),
-        ),
-        List::raw("figure-too-long", "13: a byte more", too_long, good.clone()),
-        malformed("calls-empty", "an empty list", String::new()),
-        malformed(
-            "calls-without-lf",
-            "a last line without LF",
-            good.trim_end().to_string(),
-        ),
-        malformed(
-            "calls-empty-line",
-            "an empty line behind good ones",
-            good.clone() + "\n",
-        ),
-        malformed(
-            "calls-name",
-            "a call that is not there",
-            good.replace("page", "pages").replacen("update", "start", 1),
-        ),
-        malformed(
-            "calls-digits",
-            "digits in capitals",
-            good.replace("3fe0", "3FE0"),
-        ),
-        malformed(
-            "calls-decimal",
-            "a leading zero",
-            good.clone() + "set,00,00000000\n",
-        ),
-        malformed(
-            "calls-decimal-limit",
-            "65536 is beyond a decimal",
-            good.clone() + "frame,0000000000000000,65536\n",
-        ),
-        List::raw(
-            "calls-and-start",
-            "a malformed list of a refused figure",
-            refused,
-            "update,0\n",
+            "x",
         ),
     ]
+}
+
+/// A name, what is malformed, and what stands behind good calls.
+const MALFORMED: [(&str, &str, &str); 8] = [
+    (
+        "calls-without-lf",
+        "no LF at the end",
+        "speed,0000000000000000",
+    ),
+    ("calls-empty-line", "an empty line", "\n"),
+    ("calls-name", "a call that is not there", "start\n"),
+    (
+        "calls-digits",
+        "digits in capitals",
+        "update,3FE0000000000000\n",
+    ),
+    (
+        "calls-too-few-digits",
+        "15 digits",
+        "update,3fe000000000000\n",
+    ),
+    ("calls-leading-zero", "a leading zero", "set,00,00000000\n"),
+    (
+        "calls-decimal",
+        "a decimal of 65536",
+        "page,0000000000000000,65536\n",
+    ),
+    ("calls-fields", "a field too many", "set,0,00000000,\n"),
+];
+
+pub fn call_lists() -> Vec<List> {
+    let draft = one_clip(1, 1, 1.0);
+    let good = text(&steps(&draft, 0.5, 2));
+    let list = |(name, purpose, end): (&str, &'static str, &str)| {
+        List::raw(name, purpose, draft.text(), good.clone() + end)
+    };
+    let mut lists: Vec<List> = MALFORMED.into_iter().map(list).collect();
+    let refused = BLEND.replace("joint,255", "joint,0");
+    lists.extend([
+        List::raw("calls-first", "line 1 malformed", draft.text(), "\n"),
+        List::raw(
+            "calls-and-start",
+            "a malformed list comes before refusal 3",
+            refused,
+            "x\n",
+        ),
+        List::raw("calls-none", "an empty list", draft.text(), ""),
+    ]);
+    lists
 }
