@@ -1,4 +1,8 @@
 //! Finds the Rust that is ported and writes the module list that names its files in place.
+//!
+//! Two of the modules have a child module of ours beside what their file holds. A child sees what
+//! its parent keeps private, so the state of a controller can be read and set while the files stay
+//! as they were published.
 
 use std::env;
 use std::fs;
@@ -15,6 +19,9 @@ const MODULES: [&str; 6] = [
     "transform",
 ];
 
+/// The modules that have a child `access`, each in a file of `src/access`.
+const WITH_ACCESS: [&str; 2] = ["blend_tree", "controller"];
+
 /// The folder that holds all six files: `folder` itself or its `src`.
 fn sources_in(folder: &Path) -> Option<PathBuf> {
     let candidates = [folder.join("src"), folder.to_path_buf()];
@@ -27,10 +34,24 @@ fn sources_in(folder: &Path) -> Option<PathBuf> {
     None
 }
 
+/// The module as an item of the crate: its file alone, or its file and the child `access`.
+fn module(name: &str, path: &Path, manifest: &Path) -> String {
+    if !WITH_ACCESS.contains(&name) {
+        return format!("#[path = {:?}]\npub mod {};\n", path, name);
+    }
+    let access = manifest.join("src/access").join(name).with_extension("rs");
+    println!("cargo:rerun-if-changed={}", access.display());
+    format!(
+        "pub mod {} {{\n    include!({:?});\n    #[path = {:?}]\n    pub mod access;\n}}\n",
+        name, path, access
+    )
+}
+
 fn main() {
     println!("cargo:rerun-if-changed=build.rs");
     println!("cargo:rerun-if-env-changed={}", VARIABLE);
-    let repository = Path::new(&env::var("CARGO_MANIFEST_DIR").unwrap()).join("../..");
+    let manifest = PathBuf::from(env::var("CARGO_MANIFEST_DIR").unwrap());
+    let repository = manifest.join("../..");
     let named = env::var_os(VARIABLE).filter(|name| !name.is_empty());
     let folder = match named {
         Some(name) => repository.join(name),
@@ -50,7 +71,7 @@ fn main() {
     for name in MODULES.iter() {
         let path = sources.join(name).with_extension("rs");
         println!("cargo:rerun-if-changed={}", path.display());
-        list += &format!("#[path = {:?}]\npub mod {};\n", path, name);
+        list += &module(name, &path, &manifest);
     }
     let out = Path::new(&env::var("OUT_DIR").unwrap()).join("modules.rs");
     fs::write(out, list).unwrap();

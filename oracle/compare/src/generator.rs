@@ -97,7 +97,7 @@ impl Generator {
     }
 
     /// splitmix64
-    pub fn next(&mut self) -> u64 {
+    pub fn draw(&mut self) -> u64 {
         self.state = self.state.wrapping_add(0x9e37_79b9_7f4a_7c15);
         let mut z = self.state;
         z = (z ^ (z >> 30)).wrapping_mul(0xbf58_476d_1ce4_e5b9);
@@ -106,7 +106,7 @@ impl Generator {
     }
 
     pub fn below(&mut self, n: u64) -> u64 {
-        self.next() % n
+        self.draw() % n
     }
 
     pub fn pick<T: Copy>(&mut self, items: &[T]) -> T {
@@ -115,7 +115,7 @@ impl Generator {
 
     /// A float from `low` to `high`.
     pub fn between(&mut self, low: f32, high: f32) -> f32 {
-        low + (high - low) * ((self.next() >> 40) as f32 / 16_777_216.0)
+        low + (high - low) * ((self.draw() >> 40) as f32 / 16_777_216.0)
     }
 
     pub fn ordinary(&mut self) -> u32 {
@@ -129,7 +129,7 @@ impl Generator {
 
     fn word(&mut self, style: Style) -> u32 {
         match style {
-            Style::Pattern => self.next() as u32,
+            Style::Pattern => self.draw() as u32,
             Style::Special => self.pick(&SPECIAL),
             Style::Mixed => {
                 let style = self.pick(&STYLES[..3]);
@@ -208,8 +208,8 @@ impl Generator {
             Kind::LerpQuaternion => self.orthogonal_quaternions(),
             Kind::MatrixToQuaternion | Kind::PoseFromMatrix => self.tied_diagonal(),
             Kind::FloorIndex | Kind::CeilingIndex => {
-                let whole = (self.next() >> self.below(64)) as f32;
-                let sign = (self.next() as u32) & 0x8000_0000;
+                let whole = (self.draw() >> self.below(64)) as f32;
+                let sign = (self.draw() as u32) & 0x8000_0000;
                 vec![self.near(whole.to_bits()) ^ sign]
             }
             Kind::Narrow => self.narrow_tie(),
@@ -247,21 +247,21 @@ impl Generator {
 
     /// Half way between two neighbouring 32-bit floats, or a step away from that.
     fn narrow_tie(&mut self) -> Vec<u32> {
-        let word = (self.next() as u32) % 0x7f80_0000;
+        let word = (self.draw() as u32) % 0x7f80_0000;
         let word = if self.below(4) == 0 {
             word % 0x0100_0000
         } else {
             word
         };
         let middle = midpoint(word).to_bits();
-        let bits = middle.wrapping_add(self.below(3)).wrapping_sub(1) ^ (self.next() & 1 << 63);
+        let bits = middle.wrapping_add(self.below(3)).wrapping_sub(1) ^ (self.draw() & 1 << 63);
         vec![(bits >> 32) as u32, bits as u32]
     }
 
     /// Half way between two neighbouring 32-bit floats, or a step away from that.
     fn index_tie(&mut self) -> Vec<u32> {
         let shift = self.below(41);
-        let index = (self.next() >> 40 | 1 << 23) << shift;
+        let index = (self.draw() >> 40 | 1 << 23) << shift;
         let half = if shift == 0 { 0 } else { 1 << (shift - 1) };
         let index = (index | half).wrapping_add(self.below(3)).wrapping_sub(1);
         vec![(index >> 32) as u32, index as u32]

@@ -67,7 +67,8 @@ fn matrix(words: &[u32]) -> Matrix4<f32> {
     m
 }
 
-fn bits(x: f32) -> u32 {
+/// A float's bits, every NaN by one pattern.
+pub fn bits(x: f32) -> u32 {
     if x.is_nan() {
         0x7fc0_0000
     } else {
@@ -75,7 +76,7 @@ fn bits(x: f32) -> u32 {
     }
 }
 
-fn double_bits(x: f64) -> u64 {
+pub fn double_bits(x: f64) -> u64 {
     if x.is_nan() {
         0x7ff8_0000_0000_0000
     } else {

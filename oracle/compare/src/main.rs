@@ -1,23 +1,14 @@
-//! Compares the Rattle port with the Rust that it ports, bit for bit.
+//! The commands by which the port is compared with the Rust, and the recorded files are made.
 
-mod generator;
-mod judge;
-mod program;
-mod recorded;
-mod row;
-mod self_test;
-mod simplify;
-mod texts;
-
-use generator::Generator;
-use program::{mismatches, run, Subject};
-use row::{lines, Kind, Row};
+use compare::lists::{recorded as recorded_lists, report};
+use compare::program::run;
+use compare::texts::examples;
+use compare::{rows, self_test, texts};
 use std::io::{Read, Write};
 use std::path::Path;
 use std::process::ExitCode;
 use std::time::{SystemTime, UNIX_EPOCH};
 use std::{env, fs, io};
-use texts::examples;
 
 const USAGE: &str =
     "usage: compare record OUTDIR               write the recorded rows and the Rust's answers
@@ -27,60 +18,27 @@ const USAGE: &str =
        compare print                        what gentianlathe must print for the text on standard input
        compare record-texts EXAMPLES OUTDIR write each example's .expected, the recorded texts and their answers
        compare check-texts EXAMPLES STDIN STDOUT     hold these to what record-texts would write
-       compare random-texts BINARY [--cases N] [--seed S]   compare BINARY with the reference on random texts";
+       compare random-texts BINARY [--cases N] [--seed S]   compare BINARY with the reference on random texts
+       compare replay FIGURE CALLS          what replay must print for these two files
+       compare record-lists OUTDIR          write the recorded figures with their call lists, and their answers
+       compare check-lists STDIN STDOUT     hold these two files to what record-lists would write
+       compare name-lists                   the names of the recorded lists, as a table";
 
 const DEFAULT_ROWS: usize = 200_000;
 const DEFAULT_CASES: usize = 20_000;
 
-fn record(folder: &Path) -> io::Result<bool> {
-    let rows = recorded::rows();
-    fs::write(folder.join("stdin"), lines(&rows, Row::text))?;
-    fs::write(folder.join("stdout"), lines(&rows, judge::answer))?;
-    println!("compare: {} rows recorded", rows.len());
-    Ok(true)
-}
-
-fn check(stdin: &Path, stdout: &Path) -> io::Result<bool> {
-    let rows = recorded::rows();
-    let same = fs::read_to_string(stdin)? == lines(&rows, Row::text)
-        && fs::read_to_string(stdout)? == lines(&rows, judge::answer);
-    if same {
-        println!(
-            "compare: the {} recorded rows and answers are the Rust's",
-            rows.len()
-        );
-    } else {
-        println!("compare: the recorded files are not what record writes");
-    }
-    Ok(same)
-}
-
-fn random_rows(count: usize, seed: u64) -> Vec<Row> {
-    let mut generator = Generator::new(seed);
-    let kinds = Kind::ALL.iter().cycle();
-    kinds.take(count).map(|&kind| generator.row(kind)).collect()
-}
-
-fn random(subject: Subject, count: usize, seed: u64) -> io::Result<bool> {
-    println!("compare: seed {seed}");
-    let found = mismatches(&random_rows(count, seed), subject)?;
-    let total = found.len();
-    if let Some(mismatch) = simplify::simplest(found) {
-        let simple = simplify::simplified(mismatch, subject)?;
-        println!("row      {}", simple.row.text());
-        println!("Rust     {}", simple.expected);
-        println!("Rattle   {}", simple.actual);
-    }
-    let kinds = Kind::ALL.len();
-    println!("compare: {count} rows, {kinds} kinds, seed {seed}, {total} mismatches");
-    Ok(total == 0)
-}
-
 fn print() -> io::Result<bool> {
     let mut text = Vec::new();
     io::stdin().read_to_end(&mut text)?;
-    let printed = texts::printed::printed(&text);
-    io::stdout().write_all(printed.as_bytes())?;
+    write_out(&texts::printed::printed(&text))
+}
+
+fn replay(figure: &Path, calls: &Path) -> io::Result<bool> {
+    write_out(&report::report(&fs::read(figure)?, &fs::read(calls)?))
+}
+
+fn write_out(text: &str) -> io::Result<bool> {
+    io::stdout().write_all(text.as_bytes())?;
     Ok(true)
 }
 
@@ -111,11 +69,11 @@ fn clock_seed() -> u64 {
 fn command(arguments: &[String]) -> Result<bool, String> {
     let words: Vec<&str> = arguments.iter().map(String::as_str).collect();
     let done = match words[..] {
-        ["record", folder] => record(Path::new(folder)),
-        ["check", stdin, stdout] => check(Path::new(stdin), Path::new(stdout)),
+        ["record", folder] => rows::record(Path::new(folder)),
+        ["check", stdin, stdout] => rows::check(Path::new(stdin), Path::new(stdout)),
         ["random", binary, ref rest @ ..] => {
             let (count, seed) = options(rest, "--rows", DEFAULT_ROWS)?;
-            random(&|rows| run(Path::new(binary), rows), count, seed)
+            rows::random(&|rows| run(Path::new(binary), rows), count, seed)
         }
         ["self-test", binary] => self_test::self_test(&|rows| run(Path::new(binary), rows)),
         ["print"] => print(),
@@ -128,6 +86,12 @@ fn command(arguments: &[String]) -> Result<bool, String> {
             let subject = |cases: &[_]| texts::random::run(Path::new(binary), cases);
             texts::random::compare(&subject, count, seed)
         }
+        ["replay", figure, calls] => replay(Path::new(figure), Path::new(calls)),
+        ["record-lists", out] => recorded_lists::record(Path::new(out)),
+        ["check-lists", stdin, stdout] => {
+            recorded_lists::check(Path::new(stdin), Path::new(stdout))
+        }
+        ["name-lists"] => write_out(&recorded_lists::table()),
         _ => return Err(USAGE.to_string()),
     };
     done.map_err(|error| format!("compare: {error}"))

@@ -192,8 +192,8 @@ fn matrices(rows: &mut Vec<Row>, generator: &mut Generator) {
     }
     for special in SPECIAL {
         let mut words = ordinary_words(32, generator);
-        words[generator.next() as usize % 16] = special;
-        words[16 + generator.next() as usize % 16] = special;
+        words[generator.draw() as usize % 16] = special;
+        words[16 + generator.draw() as usize % 16] = special;
         rows.push(Row::new(Kind::RowMat4Mul, &words));
         rows.push(Row::new(Kind::PoseFromMatrix, &words[..16]));
     }

@@ -2,8 +2,8 @@
 //! the comparison must say so.
 
 use crate::program::{mismatches, Subject};
-use crate::random_rows;
 use crate::row::{Kind, Row};
+use crate::rows::random_rows;
 use crate::simplify;
 use std::io;
 

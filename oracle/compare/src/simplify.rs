@@ -19,7 +19,7 @@ fn size(row: &Row) -> u32 {
 }
 
 /// Words to try in a word's place: constants, and the word with its last digits cleared.
-fn simpler_words(word: u32) -> Vec<u32> {
+pub fn simpler_words(word: u32) -> Vec<u32> {
     let cleared = [1, 2, 4, 8, 12, 16, 20, 23, 24, 28, 31].map(|n| word >> n << n);
     let mut words = vec![0, 0x3f80_0000, 0xbf80_0000, 0x4000_0000, 0x3f00_0000];
     words.extend(cleared);

@@ -1,5 +1,6 @@
 //! A figure while it is put together, right or wrong, and its text.
 
+use super::figure::Figure;
 use crate::row::joined;
 
 /// The counts of its text are the lengths here.
@@ -41,6 +42,27 @@ impl Draft {
         self.parents.len() * samples.sum::<usize>()
     }
 
+    /// The plan with its numbers, as the text would be read.
+    pub fn figure(&self) -> Figure {
+        let counts = [self.parents.len(), self.clips.len()].map(|count| count as u16);
+        let mut plan = counts.to_vec();
+        plan.extend([self.parameters, self.states.len() as u16, self.initial]);
+        plan.extend(&self.parents);
+        plan.extend(self.clips.iter().map(|clip| clip.samples));
+        let mut numbers: Vec<u32> = self.clips.iter().map(|clip| clip.rate).collect();
+        for state in &self.states {
+            plan.push(state.nodes.len() as u16);
+            plan.extend(state.nodes.iter().flatten());
+            plan.push(state.transitions.len() as u16);
+            for transition in &state.transitions {
+                plan.extend(transition.words);
+                numbers.extend(transition.numbers);
+            }
+        }
+        numbers.extend(self.poses.iter().flatten());
+        Figure { plan, numbers }
+    }
+
     pub fn text(&self) -> String {
         let mut text = format!(
             "figure,{},{},{},{},{}\n",
@@ -77,5 +99,21 @@ impl State {
             text += &format!("go,{parameter},{operator},{target},{}\n", joined(numbers));
         }
         text
+    }
+}
+
+#[cfg(test)]
+mod tests {
+    use crate::generator::Generator;
+    use crate::texts::random_figure::accepted;
+    use crate::texts::reader::read;
+
+    #[test]
+    fn a_draft_is_the_figure_of_its_text() {
+        let mut generator = Generator::new(2);
+        for _ in 0..200 {
+            let draft = accepted(&mut generator);
+            assert_eq!(read(draft.text().as_bytes()), Ok(draft.figure()));
+        }
     }
 }

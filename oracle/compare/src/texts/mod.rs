@@ -2,16 +2,15 @@
 //! on which it is held to that.
 
 pub mod case;
-mod draft;
-mod edges;
+pub mod draft;
+pub mod edges;
 pub mod examples;
-mod figure;
-mod limits;
-mod plan;
-mod player;
+pub mod figure;
+pub mod limits;
+pub mod plan;
 pub mod printed;
 pub mod random;
-mod random_figure;
-mod reader;
+pub mod random_figure;
+pub mod reader;
 mod shrink;
-mod spoil;
+pub mod spoil;

@@ -1,8 +1,9 @@
 //! What the program prints for a text.
 
-use super::figure::Refusal;
-use super::{plan, player, reader};
+use super::figure::{Figure, Refusal};
+use super::reader;
 use crate::judge::matrix_bits;
+use crate::reference::Reference;
 use crate::row::joined;
 use skeletal_animation::math::Matrix4;
 
@@ -18,18 +19,23 @@ pub fn printed(text: &[u8]) -> String {
 
 /// Each joint's matrix, or the first refusal.
 pub fn played(text: &[u8]) -> Result<Vec<Matrix4<f32>>, Refusal> {
+    let mut player = Reference::start(&read(text)?);
+    player.answer()?;
+    player.frame(0.0, 16 * 64)
+}
+
+/// What a program reads: the figure of a text that is not too long.
+pub fn read(text: &[u8]) -> Result<Figure, Refusal> {
     if text.len() > LONGEST {
         return Err(Refusal {
             number: 13,
             place: LONGEST,
         });
     }
-    let figure = reader::read(text)?;
-    let plan = plan::check(&figure)?;
-    Ok(player::first_frame(&plan, &figure.numbers))
+    reader::read(text)
 }
 
-fn joint_line((number, matrix): (usize, &Matrix4<f32>)) -> String {
+pub fn joint_line((number, matrix): (usize, &Matrix4<f32>)) -> String {
     format!("joint,{number},{}\n", joined(&matrix_bits(*matrix)))
 }
 

@@ -45,7 +45,7 @@ fn random_text(generator: &mut Generator) -> Vec<u8> {
     match generator.below(400) {
         0 => near_limit(generator),
         1..=3 => (0..generator.below(200))
-            .map(|_| generator.next() as u8)
+            .map(|_| generator.draw() as u8)
             .collect(),
         4..=200 => figure(generator).text().into_bytes(),
         _ => {
@@ -58,7 +58,7 @@ fn random_text(generator: &mut Generator) -> Vec<u8> {
 fn near_limit(generator: &mut Generator) -> Vec<u8> {
     let length = LONGEST - 1 + generator.below(3) as usize;
     match generator.below(4) {
-        0 => vec![generator.next() as u8; length],
+        0 => vec![generator.draw() as u8; length],
         1 => {
             let text = long_text(generator, length).into_bytes();
             spoiled(generator, text)

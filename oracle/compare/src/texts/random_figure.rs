@@ -15,6 +15,8 @@ pub enum Numbers {
     Pattern,
     /// Each number by one of the above.
     Mixed,
+    /// Sensible, with few others among them, which then show what they do.
+    Sparse,
 }
 
 const STYLES: [Numbers; 4] = [
@@ -26,10 +28,34 @@ const STYLES: [Numbers; 4] = [
 
 pub fn figure(generator: &mut Generator) -> Draft {
     let style = generator.pick(&STYLES);
-    let mut draft = good(generator, style);
+    let joints = count(generator, 3, 64);
+    let mut draft = good(generator, style, joints);
     if generator.below(3) == 0 {
         put_fault(generator, &mut draft);
     }
+    let poses = (0..draft.pose_count()).map(|_| pose(generator, style));
+    draft.poses = poses.collect();
+    draft
+}
+
+/// Where a number is NaN, so is much that comes of it: most figures are to show more than that.
+const MOSTLY_SENSIBLE: [Numbers; 8] = [
+    Numbers::Sensible,
+    Numbers::Sensible,
+    Numbers::Sensible,
+    Numbers::Sparse,
+    Numbers::Sparse,
+    Numbers::Special,
+    Numbers::Pattern,
+    Numbers::Mixed,
+];
+
+/// A figure in which no fault is put. The start takes it, if it has not a 65th clip node by chance.
+pub fn accepted(generator: &mut Generator) -> Draft {
+    let style = generator.pick(&MOSTLY_SENSIBLE);
+    let usual = generator.pick(&[3, 3, 3, 3, 3, 3, 3, 64]);
+    let joints = count(generator, usual, 64);
+    let mut draft = good(generator, style, joints);
     let poses = (0..draft.pose_count()).map(|_| pose(generator, style));
     draft.poses = poses.collect();
     draft
@@ -49,8 +75,7 @@ fn below(generator: &mut Generator, limit: u16) -> u16 {
     generator.below(u64::from(limit)) as u16
 }
 
-fn good(generator: &mut Generator, style: Numbers) -> Draft {
-    let joints = count(generator, 3, 64);
+fn good(generator: &mut Generator, style: Numbers, joints: u16) -> Draft {
     let mut draft = Draft {
         parameters: count(generator, 3, 33) - 1,
         parents: (0..joints).map(|joint| parent(generator, joint)).collect(),
@@ -165,9 +190,17 @@ pub fn number(generator: &mut Generator, style: Numbers) -> u32 {
     match style {
         Numbers::Sensible => generator.ordinary(),
         Numbers::Special => generator.pick(&SPECIAL),
-        Numbers::Pattern => generator.next() as u32,
+        Numbers::Pattern => generator.draw() as u32,
         Numbers::Mixed => {
             let style = generator.pick(&STYLES[..3]);
+            number(generator, style)
+        }
+        Numbers::Sparse => {
+            let style = match generator.below(32) {
+                0 => Numbers::Special,
+                1 => Numbers::Pattern,
+                _ => Numbers::Sensible,
+            };
             number(generator, style)
         }
     }
@@ -176,14 +209,19 @@ pub fn number(generator: &mut Generator, style: Numbers) -> u32 {
 /// Masks a sensible rate's sign.
 fn positive(style: Numbers) -> u32 {
     match style {
-        Numbers::Sensible => 0x7fff_ffff,
+        Numbers::Sensible | Numbers::Sparse => 0x7fff_ffff,
         _ => 0xffff_ffff,
     }
 }
 
 pub fn pose(generator: &mut Generator, style: Numbers) -> [u32; 8] {
     let mut words = [(); 8].map(|_| number(generator, style));
-    if let Numbers::Sensible = style {
+    let keeps_unit = match style {
+        Numbers::Sensible => true,
+        Numbers::Sparse => generator.below(16) > 0,
+        _ => false,
+    };
+    if keeps_unit {
         let rotation = generator.unit_quaternion().map(f32::to_bits);
         words[4..].copy_from_slice(&rotation);
     }
@@ -193,7 +231,7 @@ pub fn pose(generator: &mut Generator, style: Numbers) -> [u32; 8] {
 /// A word at or beyond what is allowed below `limit`, most likely.
 fn odd_word(generator: &mut Generator, limit: usize) -> u16 {
     let limit = limit as u16;
-    let random = generator.next() as u16;
+    let random = generator.draw() as u16;
     generator.pick(&[limit, limit + 1, 0, 1, 2, 3, 254, 255, 256, 65535, random])
 }
 

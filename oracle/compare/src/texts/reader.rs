@@ -120,7 +120,8 @@ fn at_most(count: u16, limit: u16) -> Option<()> {
     (count <= limit).then_some(())
 }
 
-fn decimal(field: &[u8]) -> Option<u16> {
+/// A decimal to 65535 without leading zeros.
+pub fn decimal(field: &[u8]) -> Option<u16> {
     let has_leading_zero = field.len() > 1 && field[0] == b'0';
     // Rust's own parser would take a sign.
     if has_leading_zero || !field.iter().all(u8::is_ascii_digit) {
@@ -130,11 +131,16 @@ fn decimal(field: &[u8]) -> Option<u16> {
 }
 
 fn float_bits(field: &[u8]) -> Option<u32> {
+    hexadecimal(field, 8)?.try_into().ok()
+}
+
+/// So many lower-case hexadecimal digits, sixteen at the most.
+pub fn hexadecimal(field: &[u8], digits: usize) -> Option<u64> {
     let is_digit = |byte: &u8| matches!(byte, b'0'..=b'9' | b'a'..=b'f');
-    if field.len() != 8 || !field.iter().all(is_digit) {
+    if field.len() != digits || !field.iter().all(is_digit) {
         return None;
     }
-    u32::from_str_radix(std::str::from_utf8(field).ok()?, 16).ok()
+    u64::from_str_radix(std::str::from_utf8(field).ok()?, 16).ok()
 }
 
 #[cfg(test)]

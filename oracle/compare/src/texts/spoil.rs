@@ -55,7 +55,7 @@ fn place(generator: &mut Generator, length: usize) -> usize {
 
 fn odd_byte(generator: &mut Generator) -> u8 {
     match generator.below(3) {
-        0 => generator.next() as u8,
+        0 => generator.draw() as u8,
         _ => generator.pick(ODD_BYTES),
     }
 }

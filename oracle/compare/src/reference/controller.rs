@@ -1,6 +1,6 @@
-//! The Rust's own controller, made from a plan and its numbers, and its first frame.
+//! The Rust's own controller, made from a plan and its numbers.
 
-use super::plan::{Inputs, Node, Plan, State, Transition};
+use crate::texts::plan::{Inputs, Node, Plan, State, Transition};
 use skeletal_animation::animation::{AnimationClip, AnimationSample};
 use skeletal_animation::blend_tree::BlendTreeNodeDef;
 use skeletal_animation::controller::{
@@ -15,16 +15,14 @@ use std::rc::Rc;
 
 type Clip = AnimationClip<QVTransform>;
 
-/// The matrices that a fresh player shows in a frame with ext 0, one for each joint.
-pub fn first_frame(plan: &Plan, numbers: &[u32]) -> Vec<Matrix4<f32>> {
+pub type Controller = AnimationController<QVTransform>;
+
+pub fn controller(plan: &Plan, numbers: &[u32]) -> Controller {
     let mut numbers = Numbers(numbers.iter());
     let rates: Vec<f32> = plan.clips.iter().map(|_| numbers.next()).collect();
     let definition = definition(plan, &mut numbers);
     let clips = clips(plan, &rates, &mut numbers);
-    let mut controller = AnimationController::new(definition, Rc::new(skeleton(plan)), &clips);
-    let mut output = vec![Matrix4::identity(); plan.parents.len()];
-    controller.get_output_pose(0.0, &mut output);
-    output
+    AnimationController::new(definition, Rc::new(skeleton(plan)), &clips)
 }
 
 /// The numbers from front to back, in which order everything here takes its own.
@@ -38,7 +36,7 @@ impl Numbers<'_> {
 }
 
 /// What has a number in the plan has a name in the Rust.
-fn name(number: impl ToString) -> String {
+pub fn name(number: impl ToString) -> String {
     number.to_string()
 }
 

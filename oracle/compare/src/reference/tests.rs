@@ -1,0 +1,137 @@
+//! The reference by cases that document 01 decides.
+
+use super::player::{Player, Running, BLANK, BLANK_INSTANCE};
+use super::Reference;
+use crate::texts::edges::BLEND;
+use crate::texts::figure::{Figure, Refusal};
+use crate::texts::reader::read;
+
+const NO_FIGURE: Figure = Figure {
+    plan: Vec::new(),
+    numbers: Vec::new(),
+};
+
+fn blend() -> Figure {
+    read(BLEND.as_bytes()).unwrap()
+}
+
+fn refusal(number: u8, place: usize) -> Refusal {
+    Refusal { number, place }
+}
+
+#[test]
+fn a_refused_start_leaves_the_blank_player() {
+    let reference = Reference::start(&NO_FIGURE);
+    assert_eq!(reference.answer(), Err(refusal(1, 0)));
+    assert_eq!(reference.player().seen(), BLANK.seen());
+}
+
+/// Clips of lengths 2 and 6; the lerp's first input is the second node.
+#[test]
+fn an_instance_belongs_to_its_node_of_the_plan() {
+    let plan = [
+        1, 2, 1, 1, 0, 255, 2, 6, 3, 0, 0, 0, 0, 0, 1, 0, 0, 1, 1, 0, 0, 0,
+    ];
+    let mut numbers = vec![1f32.to_bits(); 2];
+    numbers.resize(2 + 8 * 8, 0);
+    let figure = Figure {
+        plan: plan.to_vec(),
+        numbers,
+    };
+    let reference = Reference::start(&figure);
+    assert_eq!(reference.answer(), Ok(()));
+    let instances = reference.player().instances;
+    assert_eq!(instances[0], [0.0, 2.0 / 6.0, 0.0]);
+    assert_eq!(instances[1..], [BLANK_INSTANCE; 63]);
+}
+
+/// Case j of the bench sheet: rate 1 to 0.5 at time 8 makes the offset 4.
+#[test]
+fn a_rate_that_changes_moves_the_offset() {
+    let mut reference = Reference::start(&blend());
+    let mut player = reference.player();
+    player.instances[1] = BLANK_INSTANCE;
+    reference.store(&player);
+    reference.update(8.0);
+    reference.frame(0.0, 16).unwrap();
+    assert_eq!(reference.player().instances[1], [0.0, 0.5, 4.0]);
+}
+
+#[test]
+fn refusals_come_in_their_order() {
+    let mut reference = Reference::start(&blend());
+    assert_eq!(reference.set(32, 1.0), Err(refusal(8, 0)));
+    assert_eq!(reference.set(usize::MAX, 1.0), Err(refusal(8, 0)));
+    assert_eq!(reference.frame(0.0, 15), Err(refusal(10, 0)));
+    let fresh = reference.player();
+    let elsewhere = Player {
+        state: 2,
+        ..fresh.clone()
+    };
+    let running = Running {
+        start: 0.0,
+        target: 2,
+        duration: 1.0,
+    };
+    let leaving = Player {
+        transition: Some(running),
+        ..fresh.clone()
+    };
+    for player in [elsewhere, leaving] {
+        reference.store(&player);
+        assert_eq!(reference.frame(0.0, 15), Err(refusal(9, 0)));
+        assert_eq!(reference.page_frame(0.0, 16), Err(refusal(9, 0)));
+        assert_eq!(reference.player().seen(), player.seen());
+        let mut other = Reference::resumed(&NO_FIGURE, &player);
+        assert_eq!(other.frame(0.0, 0), Err(refusal(1, 0)));
+        assert_eq!(other.player().seen(), player.seen());
+    }
+}
+
+#[test]
+fn a_stored_player_is_held_whole() {
+    let player = Player {
+        clock: -1.5,
+        speed: f64::NAN,
+        state: usize::MAX,
+        transition: Some(Running {
+            start: f64::INFINITY,
+            target: 65536,
+            duration: -0.0,
+        }),
+        parameters: std::array::from_fn(|i| i as f32),
+        instances: std::array::from_fn(|i| [i as f32, 0.5, -1.0]),
+    };
+    for figure in [blend(), NO_FIGURE] {
+        let reference = Reference::resumed(&figure, &player);
+        assert_eq!(reference.player().seen(), player.seen());
+    }
+}
+
+/// Only entries (0, 1), (0, 2), (1, 2) and their mirror images change places.
+#[test]
+fn a_page_matrix_is_turned_in_its_upper_part() {
+    let [mut one, mut other] = [(); 2].map(|()| Reference::start(&blend()));
+    let frame = one.frame(0.0, 16).unwrap()[0];
+    let page = other.page_frame(0.0, 16).unwrap()[0];
+    assert_ne!(frame, page);
+    for i in 0..4 {
+        for j in 0..4 {
+            let expected = if i < 3 && j < 3 {
+                frame[j][i]
+            } else {
+                frame[i][j]
+            };
+            assert_eq!(page[i][j], expected);
+        }
+    }
+    assert_eq!(one.player().seen(), other.player().seen());
+}
+
+#[test]
+fn parameters_that_no_plan_reads_are_kept() {
+    let mut reference = Reference::start(&blend());
+    reference.set(31, -2.5).unwrap();
+    reference.frame(0.0, 16).unwrap();
+    assert_eq!(reference.player().parameters[31], -2.5);
+}

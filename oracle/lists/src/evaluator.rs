@@ -1,0 +1,147 @@
+//! What is compared: the calls of the static library, and the player as a host holds it.
+
+use compare::reference::player::{Player, Running, INSTANCES, PARAMETERS};
+use compare::texts::figure::Refusal;
+use std::fmt;
+
+/// A player in a host's memory. Where `running` is 0, the next three fields mean nothing.
+#[repr(C)]
+#[derive(Clone, Copy, Debug)]
+pub struct FlatPlayer {
+    pub clock: f64,
+    pub speed: f64,
+    pub state: usize,
+    pub running: usize,
+    pub start: f64,
+    pub target: usize,
+    pub duration: f32,
+    pub parameters: [f32; PARAMETERS],
+    pub instances: [[f32; 3]; INSTANCES],
+}
+
+/// 0 as number is the acceptance.
+#[repr(C)]
+#[derive(Clone, Copy, PartialEq, Eq)]
+pub struct Answer {
+    pub number: usize,
+    pub place: usize,
+}
+
+#[repr(C)]
+#[derive(Clone, Copy, PartialEq, Eq)]
+pub struct TextAnswer {
+    pub number: usize,
+    pub place: usize,
+    pub words: usize,
+    pub numbers: usize,
+}
+
+/// A frame or a page frame.
+#[derive(Clone, Copy, Debug, PartialEq, Eq)]
+pub enum Shown {
+    Frame,
+    Page,
+}
+
+/// The library, or in a self-test one with a fault.
+pub trait Evaluator {
+    fn start(&self, plan: &[u16], numbers: &[f32], player: &mut FlatPlayer) -> Answer;
+    fn update(&self, player: &mut FlatPlayer, delta: f64);
+    fn speed(&self, player: &mut FlatPlayer, speed: f64);
+    fn set(&self, player: &mut FlatPlayer, parameter: usize, value: f32) -> Answer;
+    fn frame(
+        &self,
+        shown: Shown,
+        plan: &[u16],
+        numbers: &[f32],
+        player: &mut FlatPlayer,
+        ext: f64,
+        output: &mut [f32],
+    ) -> Answer;
+    fn read_text(&self, text: &[u8], plan: &mut [u16], numbers: &mut [f32]) -> TextAnswer;
+    fn player_size(&self) -> usize;
+    fn output_length(&self, plan: &[u16]) -> usize;
+    fn most_words(&self) -> usize;
+    fn most_numbers(&self, text_length: usize) -> usize;
+}
+
+impl Answer {
+    pub fn of(answer: Result<(), Refusal>) -> Answer {
+        match answer {
+            Ok(()) => Answer {
+                number: 0,
+                place: 0,
+            },
+            Err(Refusal { number, place }) => Answer {
+                number: usize::from(number),
+                place,
+            },
+        }
+    }
+
+    pub fn is_accepted(self) -> bool {
+        self.number == 0
+    }
+}
+
+impl fmt::Debug for Answer {
+    fn fmt(&self, f: &mut fmt::Formatter) -> fmt::Result {
+        match *self {
+            Answer {
+                number: 0,
+                place: 0,
+            } => write!(f, "ok"),
+            Answer { number, place } => write!(f, "refused,{number},{place}"),
+        }
+    }
+}
+
+impl fmt::Debug for TextAnswer {
+    fn fmt(&self, f: &mut fmt::Formatter) -> fmt::Result {
+        let (words, numbers) = (self.words, self.numbers);
+        let (number, place) = (self.number, self.place);
+        write!(
+            f,
+            "{:?} with {words} words and {numbers} numbers",
+            Answer { number, place }
+        )
+    }
+}
+
+impl FlatPlayer {
+    /// No player that a call leaves: a start has to overwrite all of it.
+    pub const UNUSED: FlatPlayer = FlatPlayer {
+        clock: -7.0,
+        speed: -7.0,
+        state: 77,
+        running: 7,
+        start: -7.0,
+        target: 77,
+        duration: -7.0,
+        parameters: [-7.0; PARAMETERS],
+        instances: [[-7.0; 3]; INSTANCES],
+    };
+
+    /// What it means.
+    pub fn player(&self) -> Player {
+        let running = Running {
+            start: self.start,
+            target: self.target,
+            duration: self.duration,
+        };
+        Player {
+            clock: self.clock,
+            speed: self.speed,
+            state: self.state,
+            transition: (self.running != 0).then_some(running),
+            parameters: self.parameters,
+            instances: self.instances,
+        }
+    }
+
+    /// Whether it is as calls write it: 0 or 1 for `running`, and zeros behind a 0.
+    pub fn is_tidy(&self) -> bool {
+        let unused = (self.start.to_bits(), self.target, self.duration.to_bits());
+        self.running == 1 || (self.running == 0 && unused == (0, 0, 0))
+    }
+}

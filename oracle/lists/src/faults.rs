@@ -1,0 +1,221 @@
+//! The library with a fault put in on the way.
+
+use crate::evaluator::{Answer, Evaluator, FlatPlayer, Shown, TextAnswer};
+
+#[derive(Clone, Copy, Debug, PartialEq, Eq)]
+pub enum Fault {
+    None,
+    ClockWithoutSpeed,
+    SpeedLost,
+    NeighbourSet,
+    SetKeepsOldValue,
+    SetAcceptsTooMuch,
+    StartPlace,
+    StartNotBlank,
+    StartForgetsRates,
+    StateKept,
+    TransitionKept,
+    StartWithoutExt,
+    DurationRounded,
+    InstancesKept,
+    MatrixBit,
+    ZeroSign,
+    LastFloatMissing,
+    FloatTooMany,
+    RefusedFrameWrites,
+    RefusedFrameMoves,
+    PageNotTransposed,
+    NineForTen,
+    FrameRefused,
+    FramePlace,
+    TextPlace,
+    TextRefusedWrites,
+    TextCount,
+}
+
+impl Fault {
+    pub const ALL: [Fault; 26] = [
+        Fault::ClockWithoutSpeed,
+        Fault::SpeedLost,
+        Fault::NeighbourSet,
+        Fault::SetKeepsOldValue,
+        Fault::SetAcceptsTooMuch,
+        Fault::StartPlace,
+        Fault::StartNotBlank,
+        Fault::StartForgetsRates,
+        Fault::StateKept,
+        Fault::TransitionKept,
+        Fault::StartWithoutExt,
+        Fault::DurationRounded,
+        Fault::InstancesKept,
+        Fault::MatrixBit,
+        Fault::ZeroSign,
+        Fault::LastFloatMissing,
+        Fault::FloatTooMany,
+        Fault::RefusedFrameWrites,
+        Fault::RefusedFrameMoves,
+        Fault::PageNotTransposed,
+        Fault::NineForTen,
+        Fault::FrameRefused,
+        Fault::FramePlace,
+        Fault::TextPlace,
+        Fault::TextRefusedWrites,
+        Fault::TextCount,
+    ];
+}
+
+pub struct Faulty<'a> {
+    pub library: &'a dyn Evaluator,
+    pub fault: Fault,
+}
+
+impl Faulty<'_> {
+    fn has(&self, fault: Fault) -> bool {
+        self.fault == fault
+    }
+
+    /// What the fault does to an accepted frame's player.
+    fn spoil_player(&self, before: &FlatPlayer, player: &mut FlatPlayer) {
+        let begins = before.running == 0 && player.running != 0;
+        match self.fault {
+            Fault::StateKept => player.state = before.state,
+            Fault::TransitionKept if before.running != 0 => {
+                let state = player.state;
+                let instances = player.instances;
+                *player = *before;
+                (player.state, player.instances) = (state, instances);
+            }
+            Fault::StartWithoutExt if begins => player.start = player.clock,
+            Fault::DurationRounded if begins => player.duration = player.duration.round(),
+            Fault::InstancesKept => player.instances = before.instances,
+            _ => {}
+        }
+    }
+
+    /// What the fault does to an accepted frame's output.
+    fn spoil_output(&self, joints: usize, before: &[f32], output: &mut [f32]) {
+        let last = 16 * joints - 1;
+        match self.fault {
+            Fault::MatrixBit => output[last - 4] = flipped(output[last - 4]),
+            Fault::ZeroSign => {
+                if let Some(zero) = output[..last].iter_mut().find(|x| **x == 0.0) {
+                    *zero = -*zero;
+                }
+            }
+            Fault::LastFloatMissing => output[last] = before[last],
+            Fault::FloatTooMany if output.len() > last + 1 => output[last + 1] = 0.0,
+            _ => {}
+        }
+    }
+}
+
+/// A NaN stays one.
+fn flipped(x: f32) -> f32 {
+    f32::from_bits(x.to_bits() ^ 1)
+}
+
+impl Evaluator for Faulty<'_> {
+    fn start(&self, plan: &[u16], numbers: &[f32], player: &mut FlatPlayer) -> Answer {
+        let before = *player;
+        let mut answer = self.library.start(plan, numbers, player);
+        if !answer.is_accepted() && self.has(Fault::StartPlace) {
+            answer.place += usize::from(answer.number == 4);
+        }
+        if !answer.is_accepted() && self.has(Fault::StartNotBlank) {
+            *player = before;
+        }
+        if self.has(Fault::StartForgetsRates) {
+            for instance in &mut player.instances {
+                instance[1] = 1.0;
+            }
+        }
+        answer
+    }
+
+    fn update(&self, player: &mut FlatPlayer, delta: f64) {
+        let clock = player.clock;
+        self.library.update(player, delta);
+        if self.has(Fault::ClockWithoutSpeed) {
+            player.clock = clock + delta;
+        }
+    }
+
+    fn speed(&self, player: &mut FlatPlayer, speed: f64) {
+        if !self.has(Fault::SpeedLost) {
+            self.library.speed(player, speed);
+        }
+    }
+
+    fn set(&self, player: &mut FlatPlayer, parameter: usize, value: f32) -> Answer {
+        let before = *player;
+        match self.fault {
+            Fault::NeighbourSet => self.library.set(player, parameter ^ 1, value),
+            Fault::SetAcceptsTooMuch => self.library.set(player, parameter.min(31), value),
+            Fault::SetKeepsOldValue => {
+                let answer = self.library.set(player, parameter, value);
+                player.parameters = before.parameters;
+                answer
+            }
+            _ => self.library.set(player, parameter, value),
+        }
+    }
+
+    fn frame(
+        &self,
+        shown: Shown,
+        plan: &[u16],
+        numbers: &[f32],
+        player: &mut FlatPlayer,
+        ext: f64,
+        output: &mut [f32],
+    ) -> Answer {
+        let (before, old) = (*player, output.to_vec());
+        let shown = match self.fault {
+            Fault::PageNotTransposed => Shown::Frame,
+            _ => shown,
+        };
+        let mut answer = self
+            .library
+            .frame(shown, plan, numbers, player, ext, output);
+        if answer.is_accepted() {
+            self.spoil_player(&before, player);
+            self.spoil_output(usize::from(plan[0]), &old, output);
+        }
+        match self.fault {
+            Fault::FrameRefused if ext.is_nan() => answer.number = 10,
+            Fault::FramePlace if answer.number == 3 => answer.place += 1,
+            Fault::NineForTen if answer.number == 9 => answer.number = 10,
+            Fault::RefusedFrameWrites if answer.number == 10 => output.fill(0.0),
+            Fault::RefusedFrameMoves if !answer.is_accepted() => player.clock += ext,
+            _ => {}
+        }
+        answer
+    }
+
+    fn read_text(&self, text: &[u8], plan: &mut [u16], numbers: &mut [f32]) -> TextAnswer {
+        let mut answer = self.library.read_text(text, plan, numbers);
+        match self.fault {
+            Fault::TextPlace if answer.number == 11 => answer.place += 1,
+            Fault::TextRefusedWrites if answer.number == 12 => plan.fill(0),
+            Fault::TextCount if answer.number == 0 => answer.numbers = numbers.len(),
+            _ => {}
+        }
+        answer
+    }
+
+    fn player_size(&self) -> usize {
+        self.library.player_size()
+    }
+
+    fn output_length(&self, plan: &[u16]) -> usize {
+        self.library.output_length(plan)
+    }
+
+    fn most_words(&self) -> usize {
+        self.library.most_words()
+    }
+
+    fn most_numbers(&self, text_length: usize) -> usize {
+        self.library.most_numbers(text_length)
+    }
+}

@@ -1,0 +1,209 @@
+//! Random figures with random steps, random plans and random texts.
+
+use crate::evaluator::{Evaluator, FlatPlayer};
+use crate::plans::{self, random_plan, same_start};
+use crate::run::{run, run_steps, same, Case, Counts, Mismatch};
+use crate::shrink::shrunk;
+use crate::step::{random_steps, Step};
+use crate::texts::{self, random_reading, same_reading};
+use compare::generator::Generator;
+use compare::lists::call::parsed;
+use compare::lists::recorded::lists;
+use compare::texts::printed::read;
+use compare::texts::random_figure::accepted;
+use std::path::Path;
+use std::{fs, io};
+
+/// How many cases are tried for one that can be replayed.
+const SOME_CASES: usize = 4000;
+
+/// How much is compared.
+#[derive(Clone, Copy)]
+pub struct Amounts {
+    /// Accepted frames at least.
+    pub frames: usize,
+    pub plans: usize,
+    pub texts: usize,
+}
+
+/// What a comparison found first.
+pub enum Found {
+    Nothing,
+    List(Box<Case>),
+    Plan(compare::texts::figure::Figure),
+    Text(texts::Reading),
+    /// A recorded list, by its name.
+    Recorded(String, Mismatch),
+    Size(String),
+}
+
+pub fn random_case(generator: &mut Generator) -> Case {
+    let draft = accepted(generator);
+    let steps = random_steps(generator, &draft, random_plan);
+    Case { draft, steps }
+}
+
+/// The recorded lists that can be read, through the library's calls.
+fn recorded(evaluator: &dyn Evaluator, counts: &mut Counts) -> Option<Found> {
+    for list in lists() {
+        let (Ok(figure), Ok(calls)) = (read(&list.figure), parsed(&list.calls)) else {
+            continue;
+        };
+        let steps: Vec<Step> = calls.into_iter().map(Step::Call).collect();
+        if let Some(mismatch) = run_steps(&figure, &steps, evaluator, counts) {
+            return Some(Found::Recorded(list.name, mismatch));
+        }
+    }
+    None
+}
+
+/// The first mismatch, and what was compared up to it.
+pub fn compare(evaluator: &dyn Evaluator, amounts: Amounts, seed: u64) -> (Found, [Counts; 3]) {
+    let mut generator = Generator::new(seed);
+    let mut counts = [(); 3].map(|_| Counts::default());
+    let size = same(
+        "the size of a player",
+        &std::mem::size_of::<FlatPlayer>(),
+        &evaluator.player_size(),
+    );
+    if let Err(what) = size {
+        return (Found::Size(what), counts);
+    }
+    for _ in 0..amounts.texts {
+        let reading = random_reading(&mut generator);
+        if same_reading(&reading, evaluator, &mut counts[2]).is_err() {
+            return (Found::Text(reading), counts);
+        }
+    }
+    for _ in 0..amounts.plans {
+        let figure = random_plan(&mut generator);
+        if same_start(&figure, evaluator, &mut counts[1]).is_err() {
+            return (Found::Plan(figure), counts);
+        }
+    }
+    while counts[0].frames < amounts.frames {
+        let case = random_case(&mut generator);
+        if run(&case, evaluator, &mut counts[0]).is_some() {
+            return (Found::List(Box::new(case)), counts);
+        }
+    }
+    let found = recorded(evaluator, &mut counts[0]);
+    (found.unwrap_or(Found::Nothing), counts)
+}
+
+/// Compares, and prints what was compared and the smallest form of what was found. A list goes into
+/// two files in `folder`.
+pub fn random(
+    evaluator: &dyn Evaluator,
+    amounts: Amounts,
+    seed: u64,
+    folder: &Path,
+) -> io::Result<bool> {
+    println!("lists: seed {seed}");
+    let (found, [lists, plans, texts]) = compare(evaluator, amounts, seed);
+    println!("lists: {}", sentence(&lists));
+    println!(
+        "lists: {} plans and {} texts; refused: {}; {}",
+        plans.calls,
+        texts.calls,
+        refusals(&plans),
+        refusals(&texts)
+    );
+    print_found(&found, evaluator, folder)?;
+    Ok(matches!(found, Found::Nothing))
+}
+
+fn print_found(found: &Found, evaluator: &dyn Evaluator, folder: &Path) -> io::Result<()> {
+    match found {
+        Found::Nothing => println!("lists: no mismatch"),
+        Found::List(case) => {
+            let (case, mismatch) = shrunk(case, evaluator);
+            let is_replayed = print_case(&case, &mismatch, folder)?;
+            if let Some(other) = (!is_replayed).then(|| by_calls(evaluator)).flatten() {
+                let (case, mismatch) = shrunk(&other, evaluator);
+                print_case(&case, &mismatch, folder)?;
+            }
+        }
+        Found::Plan(figure) => {
+            let (least, what) = plans::smallest(figure, evaluator);
+            let numbers = least.numbers.len();
+            println!("start of the plan {:?} with {numbers} numbers", least.plan);
+            println!("mismatch in {what}");
+        }
+        Found::Text(reading) => {
+            let (least, what) = texts::smallest(reading, evaluator);
+            let (words, numbers) = (least.words, least.numbers);
+            println!("reading into {words} words and {numbers} numbers of the text");
+            println!("{}", least.text.escape_ascii());
+            println!("mismatch in {what}");
+        }
+        Found::Recorded(name, Mismatch { step, what }) => {
+            println!("recorded list {name}, mismatch after call {step}\nin {what}");
+        }
+        Found::Size(what) => println!("mismatch in {what}"),
+    }
+    Ok(())
+}
+
+/// A case that shows some mismatch by calls alone, which a host can replay from files.
+fn by_calls(evaluator: &dyn Evaluator) -> Option<Case> {
+    let mut generator = Generator::new(0);
+    let plain = |mut case: Case| {
+        case.steps.retain(|step| step.has_text());
+        case
+    };
+    (0..SOME_CASES)
+        .map(|_| plain(random_case(&mut generator)))
+        .find(|case| run(case, evaluator, &mut Counts::default()).is_some())
+}
+
+fn refusals(counts: &Counts) -> String {
+    let refusal = |(number, count): (&usize, &usize)| format!("{number} {count} times");
+    let all: Vec<String> = counts.refused.iter().map(refusal).collect();
+    all.join(", ")
+}
+
+fn sentence(counts: &Counts) -> String {
+    let Counts {
+        figures,
+        calls,
+        frames,
+        clean,
+        begun,
+        ended,
+        stores,
+        ..
+    } = counts;
+    format!(
+        "{frames} accepted frames ({clean} without NaN) in {calls} calls to {figures} figures, \
+         {begun} transitions begun, {ended} ended, {stores} players changed by the host; refused: {}",
+        refusals(counts)
+    )
+}
+
+/// Prints the case, and writes it to files where it can be replayed from these.
+fn print_case(case: &Case, mismatch: &Mismatch, folder: &Path) -> io::Result<bool> {
+    let figure = case.draft.text();
+    let steps: String = case.steps.iter().map(|step| step.line()).collect();
+    println!(
+        "figure\n{figure}calls\n{steps}mismatch after call {}",
+        mismatch.step
+    );
+    println!("in {}", mismatch.what);
+    if !case.steps.iter().all(|step| step.has_text()) {
+        println!("lists: what stands in brackets cannot be replayed from files");
+        return Ok(false);
+    }
+    fs::create_dir_all(folder)?;
+    let [figure_file, calls_file] = ["mismatch.figure", "mismatch.calls"].map(|f| folder.join(f));
+    fs::write(&figure_file, figure)?;
+    fs::write(&calls_file, steps)?;
+    for command in ["target/bin/replay", "compare replay"] {
+        println!(
+            "{command} {} {}",
+            figure_file.display(),
+            calls_file.display()
+        );
+    }
+    Ok(true)
+}

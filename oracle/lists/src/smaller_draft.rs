@@ -1,0 +1,223 @@
+//! Figures with less in them than a given one.
+
+use compare::simplify::simpler_words;
+use compare::texts::draft::Draft;
+
+const IDENTITY: [u32; 8] = [0, 0, 0, 0x3f80_0000, 0x3f80_0000, 0, 0, 0];
+
+/// Figures of more poses get plainer pose by pose only.
+const FEW_POSES: usize = 12;
+
+/// Without a state, a joint, a clip, samples, a transition, or with a tree cut down.
+pub fn smaller_drafts(draft: &Draft) -> Vec<Draft> {
+    let joints = (0..draft.parents.len()).rev();
+    let clips = (0..draft.clips.len()).rev();
+    let states = (0..draft.states.len()).rev();
+    let mut drafts: Vec<Draft> = states.clone().filter_map(|i| no_state(draft, i)).collect();
+    drafts.extend(joints.filter_map(|i| no_joint(draft, i)));
+    drafts.extend(clips.clone().filter_map(|i| no_clip(draft, i)));
+    drafts.extend(clips.filter_map(|i| one_sample(draft, i)));
+    for i in states {
+        drafts.extend(smaller_trees(draft, i));
+        for transition in 0..draft.states[i].transitions.len() {
+            let mut fewer = draft.clone();
+            fewer.states[i].transitions.remove(transition);
+            drafts.push(fewer);
+        }
+    }
+    drafts
+}
+
+/// A number that stays the same thing's once what had number `gone` is away.
+fn closed_up(number: u16, gone: usize) -> u16 {
+    number - u16::from(usize::from(number) > gone)
+}
+
+fn no_state(draft: &Draft, gone: usize) -> Option<Draft> {
+    if draft.states.len() == 1 {
+        return None;
+    }
+    let mut fewer = draft.clone();
+    fewer.states.remove(gone);
+    let is_gone = |number: u16| usize::from(number) == gone;
+    for state in &mut fewer.states {
+        state.transitions.retain(|t| !is_gone(t.words[2]));
+        for transition in &mut state.transitions {
+            transition.words[2] = closed_up(transition.words[2], gone);
+        }
+    }
+    fewer.initial = match fewer.initial {
+        initial if is_gone(initial) => 0,
+        initial => closed_up(initial, gone),
+    };
+    Some(fewer)
+}
+
+/// The places of a clip's poses, joint by joint within sample by sample.
+fn poses_of(draft: &Draft, clip: usize) -> std::ops::Range<usize> {
+    let samples = |clips: &[compare::texts::draft::Clip]| -> usize {
+        clips.iter().map(|clip| usize::from(clip.samples)).sum()
+    };
+    let joints = draft.parents.len();
+    let first = joints * samples(&draft.clips[..clip]);
+    first..first + joints * usize::from(draft.clips[clip].samples)
+}
+
+fn no_joint(draft: &Draft, gone: usize) -> Option<Draft> {
+    let joints = draft.parents.len();
+    if joints == 1 {
+        return None;
+    }
+    let mut fewer = draft.clone();
+    fewer.parents.remove(gone);
+    for parent in &mut fewer.parents {
+        *parent = match *parent {
+            255 => 255,
+            parent if usize::from(parent) == gone => 255,
+            parent => closed_up(parent, gone),
+        };
+    }
+    let mut place = 0;
+    fewer.poses.retain(|_| {
+        place += 1;
+        (place - 1) % joints != gone
+    });
+    Some(fewer)
+}
+
+fn no_clip(draft: &Draft, gone: usize) -> Option<Draft> {
+    if draft.clips.len() == 1 {
+        return None;
+    }
+    let mut fewer = draft.clone();
+    fewer.poses.drain(poses_of(draft, gone));
+    fewer.clips.remove(gone);
+    let nodes = fewer.states.iter_mut().flat_map(|state| &mut state.nodes);
+    for node in nodes.filter(|node| node[0] == 0) {
+        node[1] = match node[1] {
+            clip if usize::from(clip) == gone => 0,
+            clip => closed_up(clip, gone),
+        };
+    }
+    Some(fewer)
+}
+
+fn one_sample(draft: &Draft, clip: usize) -> Option<Draft> {
+    if draft.clips[clip].samples <= 1 {
+        return None;
+    }
+    let mut fewer = draft.clone();
+    let poses = poses_of(draft, clip);
+    fewer
+        .poses
+        .drain(poses.start + draft.parents.len()..poses.end);
+    fewer.clips[clip].samples = 1;
+    Some(fewer)
+}
+
+/// The tree of a state cut down to one of its own nodes.
+fn smaller_trees(draft: &Draft, state: usize) -> Vec<Draft> {
+    let nodes = &draft.states[state].nodes;
+    let cut = |root: usize| {
+        let mut fewer = draft.clone();
+        fewer.states[state].nodes = subtree(nodes, root);
+        fewer
+    };
+    (0..nodes.len().saturating_sub(1)).map(cut).collect()
+}
+
+/// The nodes that a node stands on and itself, numbered anew.
+fn subtree(nodes: &[[u16; 4]], root: usize) -> Vec<[u16; 4]> {
+    let mut used = vec![false; root + 1];
+    used[root] = true;
+    for i in (0..=root).rev().filter(|&i| nodes[i][0] > 0) {
+        if used[i] {
+            used[usize::from(nodes[i][1])] = true;
+            used[usize::from(nodes[i][2])] = true;
+        }
+    }
+    let new = |number: u16| used[..usize::from(number)].iter().filter(|&&u| u).count() as u16;
+    let renumbered = |i: usize| match nodes[i] {
+        [0, clip, b, p] => [0, clip, b, p],
+        [kind, a, b, p] => [kind, new(a), new(b), p],
+    };
+    (0..=root).filter(|&i| used[i]).map(renumbered).collect()
+}
+
+/// With poses as the identity, or with a number as a plainer one.
+pub fn plainer_drafts(draft: &Draft) -> Vec<Draft> {
+    let mut drafts = Vec::new();
+    let mut plain = draft.clone();
+    plain.poses.fill(IDENTITY);
+    if plain.poses != draft.poses {
+        drafts.push(plain);
+    }
+    for i in 0..draft.poses.len() {
+        if draft.poses[i] != IDENTITY {
+            let mut plainer = draft.clone();
+            plainer.poses[i] = IDENTITY;
+            drafts.push(plainer);
+        }
+    }
+    let count = numbers(&mut draft.clone()).len();
+    for i in 0..count {
+        let number = *numbers(&mut draft.clone())[i];
+        for simpler in simpler_words(number) {
+            let mut plainer = draft.clone();
+            *numbers(&mut plainer)[i] = simpler;
+            drafts.push(plainer);
+        }
+    }
+    drafts
+}
+
+/// All numbers, those of poses only where these are few. The identity is plain already.
+fn numbers(draft: &mut Draft) -> Vec<&mut u32> {
+    let few = draft.poses.len() <= FEW_POSES;
+    let mut all: Vec<&mut u32> = draft.clips.iter_mut().map(|clip| &mut clip.rate).collect();
+    for state in &mut draft.states {
+        let transitions = state.transitions.iter_mut();
+        all.extend(transitions.flat_map(|transition| &mut transition.numbers));
+    }
+    if few {
+        let poses = draft.poses.iter_mut().filter(|pose| **pose != IDENTITY);
+        all.extend(poses.flatten());
+    }
+    all
+}
+
+#[cfg(test)]
+mod tests {
+    use super::*;
+    use compare::generator::Generator;
+    use compare::texts::plan::check;
+    use compare::texts::random_figure::accepted;
+
+    #[test]
+    fn smaller_figures_are_accepted_too() {
+        let mut generator = Generator::new(6);
+        let drafts = (0..60).map(|_| accepted(&mut generator));
+        for draft in drafts.filter(|draft| check(&draft.figure()).is_ok()) {
+            for smaller in smaller_drafts(&draft) {
+                let size = |draft: &Draft| draft.figure().plan.len() + draft.pose_count();
+                assert!(check(&smaller.figure()).is_ok());
+                assert!(size(&smaller) < size(&draft));
+            }
+        }
+    }
+
+    #[test]
+    fn a_subtree_is_numbered_anew() {
+        let nodes = [
+            [0, 3, 0, 0],
+            [0, 4, 0, 0],
+            [0, 5, 0, 0],
+            [1, 2, 0, 7],
+            [2, 3, 1, 8],
+        ];
+        let cut = subtree(&nodes, 3);
+        assert_eq!(cut, [[0, 3, 0, 0], [0, 5, 0, 0], [1, 1, 0, 7]]);
+        assert_eq!(subtree(&nodes, 4), nodes);
+        assert_eq!(subtree(&nodes, 1), [nodes[1]]);
+    }
+}
