@@ -1,8 +1,8 @@
--- What the words of a node tell of synchronising it, and the filling of slots. Assumes nothing.
-use Prim.Native.Nat.{ℕ, _+_, _<_}
+-- What the words of a node tell of synchronising it, the filling of slots, and how large they get. Assumes nothing.
+use Prim.Native.Nat.{ℕ, zero, suc, _+_, _≤_, _<_}
 use native.Mathlib.Omega.{arith}
-use mathlib.Core.Path.{_≡_, sym, _∙_}
-use mathlib.Core.Bool.{true, false, _&&_}
+use mathlib.Core.Path.{_≡_, refl, sym, _∙_}
+use mathlib.Core.Bool.{Bool, true, false, _&&_}
 use mathlib.Core.List.{List}
 use lib.Dec.{eqb}
 use lib.ListN.{length, getD, set}
@@ -10,11 +10,18 @@ use lib.Seq.{getD-set-same, getD-set-other}
 use lib.Ieee.{Float}
 use borrow.Author.Count.{below-more}
 use borrow.Author.Tests.{eq-eqb, ne-eqb, eqb-true}
-use Rattle.model.specs.Plan.{isClip, isLerp, inputA}
+use Rattle.model.specs.Answers.{accepted}
+use Rattle.model.specs.Plan.{maxClipNodes, stateCount, nodeCount, isClip, isLerp, inputA, total, clipNodesBefore, clipNode}
+use Rattle.model.specs.Check.{checkState}
 use Rattle.model.specs.Laws.Tests.{and-left, and-right}
+use Rattle.model.specs.Laws.ClipNodes.{first-clip-node, clip-counts, blend-counts-not}
+use Rattle.model.specs.Laws.State.{few-clip-nodes}
+use Rattle.model.specs.Laws.Passed.{state-passed}
 use Rattle.model.specs.Tree.{parameter, targetLength, isTouched, nodeLength, nodeTarget, inputSynchronized, synchronizeNode}
+use Rattle.layout.specs.declared.StateLayout.{StateLayout}
 use Rattle.layout.specs.declared.Node.{Node}
-use Rattle.layout.specs.Layout.{nodeOf}
+use Rattle.layout.specs.Layout.{Passes, InPlan, nodeOf}
+use Rattle.layout.proofs.Laws.{here-ok, nodes-counted}
 use Rattle.blend_tree.proofs.NodeLaws.{no-clip}
 
 module _ (plan : List ℕ) (s i : ℕ) {n : Node} (e : n ≡ nodeOf plan s i) where
@@ -56,3 +63,23 @@ pub filled-more : (slots : List ℕ) (i next : ℕ) (f : ℕ → ℕ) → i < le
 filled-more slots i next f l done here =
     below-more (λ (k : ℕ). getD (set slots i next) k 0 ≡ f k) i (λ k h. getD-set-other slots i k next 0 (λ e. omega arith) ∙ done k h)
     (getD-set-same slots i next 0 l ∙ here)
+
+-- ---- clip nodes are few: each has an instance, and so the next has at most the number after the last
+
+module _ (plan : List ℕ) where
+  few-among : (s : ℕ) → checkState plan s ≡ accepted → clipNodesBefore plan s ≤ maxClipNodes → (i : ℕ) → i ≤ nodeCount plan s → clipNode plan s i ≤ maxClipNodes
+  few-among s ok before zero h = rw (← first-clip-node plan s) before
+  few-among s ok before (suc i) h = next (isClip plan s i) refl (few-among s ok before i (omega arith))
+    where
+      next : (t : Bool) → isClip plan s i ≡ t → clipNode plan s i ≤ maxClipNodes → clipNode plan s (suc i) ≤ maxClipNodes
+      next true e l = omega (arith, clip-counts plan s i e, few-clip-nodes plan s ok i h e)
+      next false e l = omega (arith, blend-counts-not plan s i e)
+
+  few-before : Passes plan → (s : ℕ) → s ≤ stateCount plan → clipNodesBefore plan s ≤ maxClipNodes
+  unfolding clipNodesBefore total clipNode
+  few-before ok zero h = omega arith
+  few-before ok (suc s) h = few-among s (state-passed plan (ok .numbers) (ok .passed) s h) (few-before ok s (omega arith)) (nodeCount plan s) (omega arith)
+
+pub few-next : {plan : List ℕ} {here : StateLayout} → Passes plan → InPlan plan here → (i : ℕ) → i ≤ here .nodes → clipNode plan (here .state) i ≤ maxClipNodes
+few-next {plan} {here} ok inside i h =
+    few-among plan (here .state) (here-ok inside ok) (few-before plan ok (here .state) (omega (arith, inside .below))) i (omega (arith, nodes-counted inside))

@@ -16,12 +16,16 @@ ghost use Rattle.model.specs.Tree.{targetLength, isTouched, nodeLength, inputSy
 ghost use Rattle.layout.specs.Layout.{Passes, InPlan};
 ghost use Rattle.blend_tree.specs.Blocks.{Playable, Slots};
 
+// Called for the proof alone: of a slice the length is known there, of a reference to an array it is not.
+fn sized(slots: &[u8]) {}
+
 // Which instance each clip node of a state has. A slot of another node is not read. They are bytes in an array of the caller's, since copies of them cost more
 // than all else for a state of one node.
 fn clip_slots(plan: &[u16], here: StateLayout, slots: &mut [u8; 32])
     requires { ⌜ Passes (now plan) × InPlan (now plan) here ⌝ }
     ensures { λ _. ⌜ Slots (now (plan .entry)) (here .state) (now (slots .exit)) ⌝ }
 {
+    sized(slots);
     let mut next = here.clip_node;
     let mut i = 0;
     while i < here.nodes {

@@ -5,7 +5,7 @@ use mathlib.Core.Bool.{cond}
 use mathlib.Core.List.{List, [], _∷_}
 use lib.ListN.{length, drop}
 use lib.Dec.{eqb}
-use lib.Ieee.{Float, binary32, binary64, ofBits}
+use lib.Ieee.{binary32, binary64, ofBits}
 use Rattle.model.specs.declared.FieldForm.the-variants.{Decimal, Bits}
 use Rattle.model.specs.Text.{front, lineFeed, comma, maxWord, Field, none, field, fieldIn, begins}
 use Rattle.model.specs.Run.{Call, Update, Speed, Set, Frame, FrameKind, ordinary, page}

@@ -1,12 +1,14 @@
 // Lists of calls as text, a call a line.
 use fields::Field;
+use fields::byte;
 use fields::read_field;
 use fields::read_wide_bits;
 use float::f32_from_bits;
 use float::f64_from_bits;
 use model::FieldForm;
 ghost use mathlib.Core.Path.{_≡_};
-ghost use Prim.Native.Nat.{_≤_};
+ghost use mathlib.Core.Bool.{true};
+ghost use Prim.Native.Nat.{ℕ, _-_, _≤_, _<_};
 ghost use lib.ListN.{length, drop, getD};
 ghost use Rattle.model.specs.Text.{begins};
 ghost use Rattle.fields.specs.Found.{found};
@@ -46,14 +48,10 @@ pub struct ListChecked {
     pub malformed: usize,
 }
 
-fn byte(text: &[u8], at: usize) -> u8
-    ensures { λ r. ⌜ r ≡ getD (now (text .entry)) at 0 ⌝ }
-{
-    if at < text.len() { text[at] } else { 0 }
-}
-
+// Whether a name without a 0 stands at `at`; then it stands inside the text.
 fn begins(text: &[u8], at: usize, name: &[u8]) -> bool
-    ensures { λ r. ⌜ r ≡ begins (now (name .entry)) (drop at (now (text .entry))) ⌝ }
+    requires { ⌜ ((i : ℕ) → i < length (now name) → 1 ≤ getD (now name) i 0) ⌝ }
+    ensures { λ r. ⌜ (r ≡ begins (now (name .entry)) (drop at (now (text .entry)))) × (r ≡ true → length (now (name .entry)) ≤ length (now (text .entry)) - at) ⌝ }
 {
     let mut i = 0;
     while i < name.len() {
@@ -248,7 +246,6 @@ fn line_count(text: &[u8]) -> usize
 
 // The number of the first malformed line among `lines` and what is left behind them.
 fn first_malformed(text: &[u8], lines: usize) -> usize
-    requires { ⌜ lines ≤ length (now text) ⌝ }
     ensures { λ r. ⌜ r ≡ firstMalformed (readCalls lines (now (text .entry))) ⌝ }
 {
     let mut at = 0;

@@ -1,13 +1,35 @@
--- Blank instances, made from zeros one rate at a time. Assumes nothing.
+-- What `start` makes, over plain values: blank instances from zeros one rate at a time, the fresh player state by state, and the promise of each answer.
+-- Assumes nothing.
 use Prim.Native.Nat.{ℕ, zero, suc, _+_, _*_, _-_, _<_}
 use native.Mathlib.Omega.{arith}
 use native.Mathlib.Numerals.{add-one}
-use mathlib.Core.Path.{_≡_, ap}
+use mathlib.Core.Path.{_≡_, sym, ap, _∙_}
 use mathlib.Core.List.{List, _∷_, _++_}
-use lib.ListN.{set, replicate}
+use lib.ListN.{length, set, replicate}
 use lib.Ieee.{Float}
+use denote.Enum.Declared.{tagOf}
+use Rattle.model.specs.declared.Answer.{Answer}
+use Rattle.model.specs.declared.Answer.the-variants as answer
+use Rattle.model.specs.declared.Player.{Player}
+use Rattle.model.specs.Answers.{accepted, values, unlessRefused}
+use Rattle.model.specs.Plan.{stateCount}
 use Rattle.model.specs.Numbers.{0f, 1f}
+use Rattle.model.specs.Check.{check}
 use Rattle.model.specs.Clips.{blankInstances}
+use Rattle.model.specs.Tree.{synchronize}
+use Rattle.model.specs.Controller.{blank, fresh, synchronizeStates, withState, withInstances}
+use Rattle.model.specs.Run.{startVerdict, startPlayer}
+use Rattle.model.specs.Promises.{Started}
+use Rattle.layout.specs.declared.Layout.{Layout}
+use Rattle.layout.specs.declared.StateLayout.{StateLayout}
+use Rattle.layout.specs.Layout.{layoutOf, stateLayout}
+use Rattle.plan.specs.declared.Checked.{Checked}
+use Rattle.plan.specs.declared.Checked.the-variants as checked
+use Rattle.plan.proofs.Checked.{the-type as checked-type}
+use Rattle.plan.specs.Checked.{verdict, PlanChecked}
+use Rattle.blend_tree.specs.Blocks.{Playable}
+
+-- ---- blank instances
 
 -- one more instance is blank, and m still to come
 one-more-blank : (n m : ℕ) → set (blankInstances n ++ replicate (3 * suc m) 0f) (3 * n + 1) 1f ≡ blankInstances (suc n) ++ replicate (3 * m) 0f
@@ -21,3 +43,25 @@ pub blank-next : (l : List Float) (n : ℕ) → n < 64 → l ≡ blankInstances 
 blank-next l n h e =
     let s : 64 - n ≡ suc (64 - (n + 1)) = omega arith in
     rw (e, s, one-more-blank n (64 - (n + 1)), add-one n)
+
+-- ---- the states, and the answers
+
+pub one-more-state : (plan : List ℕ) (numbers parameters : List Float) (s : ℕ) (here : StateLayout) (first before after : List Float) → here ≡ stateLayout plan s → parameters ≡ replicate 32 0f
+    → before ≡ synchronizeStates plan numbers s first → after ≡ synchronize plan numbers parameters 0f (here .state) before → after ≡ synchronizeStates plan numbers (s + 1) first
+unfolding stateLayout synchronizeStates
+one-more-state plan numbers parameters s here first before after e z b a = rw (a, e, z, b, add-one s)
+
+pub fresh-made : (plan : List ℕ) (numbers : List Float) (l : Layout) → Playable plan numbers l → (b : Player) → b ≡ blank → (after : List Float)
+    → after ≡ synchronizeStates plan numbers (stateCount plan) (b .instances) → withInstances (withState b (l .initial)) after ≡ fresh plan numbers
+unfolding fresh layoutOf
+fresh-made plan numbers l ok b e after a = rw (a, e, ok .found)
+
+pub start-handed : (plan : List ℕ) (numbers : List Float) (k : Checked) → PlanChecked plan (length numbers) k → tagOf checked-type k ≡ 1 → {a : Answer} → values a ≡ verdict k → {b : Player} → b ≡ blank
+    → Started plan numbers (record { answer = a; player = b })
+unfolding verdict startVerdict startPlayer unlessRefused
+start-handed plan numbers (checked.Passed l) done t e f = absurd (omega (arith, t))
+start-handed plan numbers (checked.Refused n m) done t e f = record { answer = e ∙ done .answer; player = rw (← done .answer) f }
+
+pub start-accepted : (plan : List ℕ) (numbers : List Float) → check plan (length numbers) ≡ accepted → (q : Player) → q ≡ fresh plan numbers → Started plan numbers (record { answer = answer.Accepted; player = q })
+unfolding values startVerdict startPlayer unlessRefused
+start-accepted plan numbers ok q e = record { answer = sym ok; player = rw ok e }

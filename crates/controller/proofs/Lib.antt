@@ -1,3 +1,2 @@
 -- Laws for the calls' proofs
 pub mod Laws
-pub mod Frames

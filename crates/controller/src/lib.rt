@@ -21,7 +21,7 @@ ghost use Rattle.model.specs.Controller.{blank, fresh, synchronizeStates};
 ghost use Rattle.model.specs.Run.{FrameKind};
 ghost use Rattle.model.specs.Promises.{Started, Updated, SpeedSet, ParameterSet, Framed};
 ghost use Rattle.blend_tree.specs.Blocks.{Playable};
-ghost use Rattle.frames.specs.Parts.{outcomeOf};
+ghost use Rattle.frames.specs.Parts.{kindOf, outcomeOf};
 
 fn blank_instances() -> [f32; 192]
     ensures { λ r. ⌜ r ≡ blankInstances 64 ⌝ }
@@ -179,13 +179,22 @@ fn outcome(player: Player, parts: FrameParts, instances: [f32; 192]) -> Outcome
     }
 }
 
-pub fn frame(plan: &[u16], numbers: &[f32], player: Player, ext: f64, output: &mut [f32]) -> Outcome
-    ensures { λ r. ⌜ Framed FrameKind.ordinary (now (plan .entry)) (now (numbers .entry)) player ext (now (output .entry)) (now (output .exit)) r ⌝ }
+// Of either kind, over the player's parts.
+fn framed(
+    is_page: bool,
+    plan: &[u16],
+    numbers: &[f32],
+    player: Player,
+    ext: f64,
+    output: &mut [f32],
+) -> Outcome
+    ensures { λ r. ⌜ Framed (kindOf «is_page») (now (plan .entry)) (now (numbers .entry)) player ext (now (output .entry)) (now (output .exit)) r ⌝ }
 {
     let transition = player.transition;
     let parameters = player.parameters;
     let mut instances = player.instances;
     let parts = frames::frame(
+        is_page,
         plan,
         numbers,
         player.clock,
@@ -200,6 +209,12 @@ pub fn frame(plan: &[u16], numbers: &[f32], player: Player, ext: f64, output: &m
     outcome(player, parts, instances)
 }
 
+pub fn frame(plan: &[u16], numbers: &[f32], player: Player, ext: f64, output: &mut [f32]) -> Outcome
+    ensures { λ r. ⌜ Framed FrameKind.ordinary (now (plan .entry)) (now (numbers .entry)) player ext (now (output .entry)) (now (output .exit)) r ⌝ }
+{
+    framed(false, plan, numbers, player, ext, output)
+}
+
 pub fn page_frame(
     plan: &[u16],
     numbers: &[f32],
@@ -209,20 +224,5 @@ pub fn page_frame(
 ) -> Outcome
     ensures { λ r. ⌜ Framed FrameKind.page (now (plan .entry)) (now (numbers .entry)) player ext (now (output .entry)) (now (output .exit)) r ⌝ }
 {
-    let transition = player.transition;
-    let parameters = player.parameters;
-    let mut instances = player.instances;
-    let parts = frames::page_frame(
-        plan,
-        numbers,
-        player.clock,
-        player.speed,
-        player.state,
-        transition,
-        &parameters,
-        &mut instances,
-        ext,
-        output,
-    );
-    outcome(player, parts, instances)
+    framed(true, plan, numbers, player, ext, output)
 }

@@ -1,20 +1,20 @@
 -- Digits, the run that stands at a place of a text, its number, and the field there. Assumes nothing.
 use Prim.Native.Nat.{ℕ, zero, suc, _+_, _-_, _*_, _^_, _<_, _≤_}
-use native.Mathlib.Nat.{mul-le-mul, le-mul-of-pos-right}
+use native.Mathlib.Nat.{pow-zero, pow-suc, add-mul, mul-assoc, add-assoc, mul-le-mul, le-mul-of-pos-right}
 use native.Mathlib.Omega.{arith}
 use mathlib.Core.Path.{_≡_, refl, sym, _∙_}
 use mathlib.Core.Bool.{Bool, true, false, cond, not, _||_}
-use mathlib.Core.List.{List}
-use lib.Dec.{leb, eqb}
+use mathlib.Core.List.{List, [], _∷_}
+use lib.Dec.{leb, ltb, eqb}
 use lib.ListN.{length, getD, drop, length-drop, drop-of-length-le}
 use lib.Seq.{drop-cons, drop-drop, getD-drop}
 use borrow.Author.Tests.{lt-ltb, le-ltb, le-leb, lt-leb, eqb-true, eq-eqb, ne-eqb}
 use Rattle.model.specs.declared.FieldForm.{FieldForm}
-use Rattle.model.specs.declared.FieldForm.the-variants.{Decimal, Bits}
+use Rattle.model.specs.declared.FieldForm.the-variants.{Decimal}
 use Rattle.model.specs.Check.{within}
 use Rattle.model.specs.Laws.Tests.{within-high}
 use Rattle.model.specs.Laws.Digits.{run-length, numeral-small}
-use Rattle.model.specs.Text.{front, digit, run, numeral, baseOf, isField, none, field, fieldIn}
+use Rattle.model.specs.Text.{front, digit, run, numeral, baseOf, isField, Field, none, field, fieldIn}
 
 -- ---- a digit
 
@@ -149,17 +149,55 @@ module _ (limit : ℕ) (s : List ℕ) (at end : ℕ) (ends : end ≡ at + run 10
     pub decimal-reads : (v : ℕ) → v ≤ limit → v ≡ numeral 10 (end - at) (drop at s) → field v (drop end s) ≡ fieldIn (Decimal limit) (drop at s)
     decimal-reads v l e = is-field (Decimal limit) s at end ends v e (decides ∙ le-leb _ limit (omega (arith, e)))
 
-module _ (s : List ℕ) (at end : ℕ) (ends : end ≡ at + run 16 (drop at s)) where
-  pub bits-none : (end - at ≡ 8 → ⊥) → none ≡ fieldIn Bits (drop at s)
-  unfolding isField
-  bits-none h = no-field Bits s at end ends (ne-eqb (end - at) 8 h)
+-- ---- float bits: a run of just n digits
 
-  -- eight digits fit 32 bits, so no number is above the largest of 32 bits
-  pub bits-read : (v : ℕ) → end - at ≡ 8 → (v ≤ 4294967295 → v ≡ numeral 16 (end - at) (drop at s))
-      → (4294967295 < v → 4294967295 < numeral 16 (end - at) (drop at s)) → field v (drop end s) ≡ fieldIn Bits (drop at s)
-  unfolding isField
-  bits-read v h small large =
-      let l : 8 ≤ run 16 (drop at s) = omega arith in
-      let fits : numeral 16 (end - at) (drop at s) < 16 ^ 8 = rw h (numeral-small 16 (drop at s) 8 l) in
-      let no : 4294967295 < v → ⊥ = λ m. omega (arith, large m) in
-      is-field Bits s at end ends v (small (omega arith)) (eq-eqb (end - at) 8 h)
+-- eight digits fit 32 bits, so that `numeral`, which stops above 32 bits, gives their number
+pub record Eight (s : List ℕ) (at v : ℕ) : Type 0 where
+  pub writes : v ≡ numeral 16 8 (drop at s)
+  pub fits : v < 2 ^ 32
+
+pub eight : (s : List ℕ) (at end v : ℕ) → end - at ≡ 8 → 8 ≤ run 16 (drop at s) → (v ≤ 4294967295 → v ≡ numeral 16 (end - at) (drop at s))
+    → (4294967295 < v → 4294967295 < numeral 16 (end - at) (drop at s)) → Eight s at v
+eight s at end v h l small large =
+    let fits : numeral 16 (end - at) (drop at s) < 16 ^ 8 = rw h (numeral-small 16 (drop at s) 8 l) in
+    let no : 4294967295 < v → ⊥ = λ m. omega (arith, large m) in
+    record { writes = rw h at (small (omega arith)); fits = omega arith }
+
+-- the field of k digits where n are asked for
+abbrev pub digitsIn : ℕ → ℕ → List ℕ → Field
+digitsIn n k s = cond (eqb (run 16 s) n) (field (numeral 16 k s) (drop k s)) none
+
+module _ (s : List ℕ) (at end : ℕ) (ends : end ≡ at + run 16 (drop at s)) (n k : ℕ) where
+  pub digits-none : (end - at ≡ n → ⊥) → none ≡ digitsIn n k (drop at s)
+  digits-none h = rw (ne-eqb (run 16 (drop at s)) n (λ e. h (omega arith)))
+
+  pub digits-read : (v : ℕ) → end - at ≡ n → k ≡ n → v ≡ numeral 16 n (drop at s) → field v (drop end s) ≡ digitsIn n k (drop at s)
+  digits-read v h e q =
+      let f : at + k ≡ end = omega arith in
+      rw (eq-eqb (run 16 (drop at s)) n (omega arith), drop-drop, f, e, q)
+
+-- two halves
+
+numeral-split : (base : ℕ) (s : List ℕ) (m k : ℕ) → numeral base (m + k) s ≡ numeral base m s * base ^ k + numeral base k (drop m s)
+unfolding numeral
+numeral-split base s m zero = let e : m + zero ≡ m = omega arith in rw (e, pow-zero base) (omega arith)
+numeral-split base s m (suc k) =
+    let e : m + suc k ≡ suc (m + k) = omega arith in
+    rw (e, numeral-split base s m k, pow-suc base k, add-mul, mul-assoc, getD-drop, add-assoc)
+
+run-later : (base : ℕ) (m : ℕ) (s : List ℕ) → m ≤ run base s → run base (drop m s) ≡ run base s - m
+unfolding run
+run-later base zero s h = omega arith
+run-later base (suc m) [] h = omega arith
+run-later base (suc m) (b ∷ s) h = at (ltb (digit b) base) h (run-later base m s)
+  where
+    at : (t : Bool) → suc m ≤ cond t (suc (run base s)) 0 → (m ≤ run base s → run base (drop m s) ≡ run base s - m)
+        → run base (drop m s) ≡ cond t (suc (run base s)) 0 - suc m
+    at true h later = omega (arith, later (omega arith))
+    at false h later = absurd (omega arith)
+
+pub second-half : (s : List ℕ) (at : ℕ) → 16 ≤ run 16 (drop at s) → 8 ≤ run 16 (drop (at + 8) s)
+second-half s at h = rw (← drop-drop 8 at s) (omega (arith, run-later 16 8 (drop at s) (omega arith)))
+
+pub halves : {s : List ℕ} {at high low : ℕ} → Eight s at high → Eight s (at + 8) low → high * 4294967296 + low ≡ numeral 16 16 (drop at s)
+halves {s} {at} h l = rw (numeral-split 16 (drop at s) 8 8, drop-drop, h .writes, l .writes)

@@ -2,7 +2,7 @@
 use model::FieldForm;
 ghost use mathlib.Core.Path.{_≡_};
 ghost use Prim.Native.Nat.{_+_, _-_, _<_, _≤_, _^_};
-ghost use lib.ListN.{drop, length};
+ghost use lib.ListN.{length, getD, drop};
 ghost use Rattle.model.specs.Text.{digit, run, numeral, fieldIn};
 ghost use Rattle.model.specs.declared.FieldForm.the-variants as FieldForm;
 ghost use Rattle.fields.specs.Found.{found};
@@ -12,6 +12,13 @@ ghost use Rattle.fields.specs.Wide.{wideBitsIn};
 pub enum Field {
     Value { value: usize, end: usize },
     Nothing,
+}
+
+// The byte at a place, 0 past the end.
+pub fn byte(text: &[u8], at: usize) -> u8
+    ensures { λ r. ⌜ r ≡ getD (now (text .entry)) at 0 ⌝ }
+{
+    if at < text.len() { text[at] } else { 0 }
 }
 
 fn digit(b: u8) -> usize

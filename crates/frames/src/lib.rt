@@ -26,7 +26,7 @@ ghost use Rattle.model.specs.Promises.{Framed};
 ghost use Rattle.plan.specs.Checked.{verdict};
 ghost use Rattle.layout.specs.Layout.{layoutOf, stateLayout, Passes, InPlan};
 ghost use Rattle.blend_tree.specs.Blocks.{Playable};
-ghost use Rattle.frames.specs.Parts.{playerOf, outcomeOf, Played};
+ghost use Rattle.frames.specs.Parts.{kindOf, playerOf, outcomeOf, Played};
 
 // The answer, and the parts that a frame hands back; the instances are changed where they are.
 pub struct FrameParts {
@@ -123,7 +123,7 @@ fn refused(number: usize, state: usize, transition: Transition) -> FrameParts
     }
 }
 
-pub fn frame(
+fn ordinary_frame(
     plan: &[u16],
     numbers: &[f32],
     clock: f64,
@@ -175,8 +175,9 @@ pub fn frame(
     }
 }
 
-// A frame, and then each matrix's upper 3×3 transposed.
-pub fn page_frame(
+// A frame; of a page frame each matrix's upper 3×3 is then transposed. One function for both, so that the compiler can inline the work.
+pub fn frame(
+    is_page: bool,
     plan: &[u16],
     numbers: &[f32],
     clock: f64,
@@ -188,9 +189,9 @@ pub fn page_frame(
     ext: f64,
     output: &mut [f32],
 ) -> FrameParts
-    ensures { λ r. ⌜ Framed FrameKind.page (now (plan .entry)) (now (numbers .entry)) (playerOf clock speed state transition (now (parameters .entry)) (now (instances .entry))) ext (now (output .entry)) (now (output .exit)) (outcomeOf clock speed r (now (parameters .entry)) (now (instances .exit))) ⌝ }
+    ensures { λ r. ⌜ Framed (kindOf «is_page») (now (plan .entry)) (now (numbers .entry)) (playerOf clock speed state transition (now (parameters .entry)) (now (instances .entry))) ext (now (output .entry)) (now (output .exit)) (outcomeOf clock speed r (now (parameters .entry)) (now (instances .exit))) ⌝ }
 {
-    let parts = frame(
+    let parts = ordinary_frame(
         plan,
         numbers,
         clock,
@@ -202,6 +203,9 @@ pub fn page_frame(
         ext,
         output,
     );
+    if !is_page {
+        return parts;
+    }
     let answer = parts.answer;
     let Answer::Accepted = answer else {
         return parts;

@@ -1,41 +1,23 @@
 -- Laws of the forms of lines and of the reading of one, over plain values. Assumes nothing.
-use Prim.Native.Nat.{ℕ, zero, suc, _+_, _-_, _≤_, _<_, suc-le-suc}
-use native.Mathlib.Nat.{add-zero, sub-self, sub-zero}
+use Prim.Native.Nat.{ℕ, suc, _+_, _-_, _≤_, _<_}
+use native.Mathlib.Nat.{sub-self, sub-zero}
 use native.Mathlib.Numerals.{add-one}
 use native.Mathlib.Omega.{arith}
 use mathlib.Core.Path.{_≡_, refl, sym, ap, _∙_}
-use mathlib.Core.Bool.{Bool, true, false, cond, _&&_}
+use mathlib.Core.Bool.{Bool, true, false, cond}
 use mathlib.Core.List.{List, [], _∷_, _++_, append-assoc, append-nil}
 use lib.Dec.{T, leb, eqb, leb→le}
-use lib.ListN.{length, getD, take, drop, set, replicate, length-set, drop-of-length-le, List·getD-append}
-use lib.Seq.{drop-cons, getD-drop, getD-take, drop-drop, take-append-seam, take-suc-set}
+use lib.ListN.{length, getD, take, drop, set, replicate, length-set, List·getD-append}
+use lib.Seq.{getD-take, drop-drop, take-append-seam, take-suc-set}
 use borrow.Author.Tests.{lt-ltb, le-ltb, eq-eqb, ne-eqb}
 use Rattle.model.specs.declared.LineKind.{LineKind}
 use Rattle.model.specs.declared.LineKind.the-variants.{Figure, Joint, Clip, State, Node, Go, Pose}
 use Rattle.model.specs.declared.FieldForm.{FieldForm}
 use Rattle.model.specs.declared.FieldForm.the-variants.{Decimal, Bits}
 use Rattle.model.specs.Text.{comma, lineFeed, none, field, Line, malformed, line, name, limits, bitsCount, decimalCount, fieldCount, formOf, withField, fieldThen, fieldIn, lastFields, begins, lineIn}
+use Rattle.fields.proofs.Bytes.{inside, front-at, positive, positive-at, Begun, name-found, name-missing, name-goes}
 use Rattle.lines.specs.declared.LineForm.{LineForm}
 use Rattle.lines.specs.LineForm.{lineForm}
-
--- ---- bytes
-
--- 0 is what stands past the end
-there : (s : List ℕ) (i : ℕ) → 1 ≤ getD s i 0 → i < length s
-there [] i h = absurd (omega arith)
-there (b ∷ s) zero h = omega arith
-there (b ∷ s) (suc i) h = suc-le-suc (there s i h)
-
-abbrev positive : List ℕ → Bool
-positive [] = true
-positive (zero ∷ s) = false
-positive (suc b ∷ s) = positive s
-
-positive-at : (s : List ℕ) → T (positive s) → (i : ℕ) → i < length s → 1 ≤ getD s i 0
-positive-at [] p i h = absurd (omega arith)
-positive-at (zero ∷ s) p i h = absurd p
-positive-at (suc b ∷ s) p zero h = omega arith
-positive-at (suc b ∷ s) p (suc i) h = positive-at s p i (omega arith)
 
 -- ---- the forms
 
@@ -68,18 +50,7 @@ module _ (kind : LineKind) (k n : ℕ) (is : n ≡ decimalCount kind) where
   unfolding formOf
   bits-form above = rw (le-ltb k (decimalCount kind) (rw is at above))
 
--- ---- a name
-
-begins-opened : (s text : List ℕ) (i here : ℕ) → i < length s
-    → begins (drop i s) (drop here text) ≡ eqb (getD text here 0) (getD s i 0) && begins (drop (i + 1) s) (drop (here + 1) text)
-unfolding begins
-begins-opened s text i here below = rw (add-one i, drop-cons s i 0 below, getD-drop here text 0 0, drop-drop 1 here text, add-zero here)
-
--- the first i bytes of the name, which is the first n of s, stand at `at`, inside the text
-pub record Begun (s : List ℕ) (n : ℕ) (text : List ℕ) (at i : ℕ) : Type 0 where
-  pub most : i ≤ n
-  pub inside : i ≤ length text - at
-  pub rest : begins (take n s) (drop at text) ≡ begins (drop i (take n s)) (drop (at + i) text)
+-- ---- a name: the first bytes of the table's array
 
 module _ (kind : LineKind) {form : LineForm} (e : form ≡ lineForm kind) where
   name-length : form .1 ≡ length (name kind)
@@ -93,13 +64,13 @@ module _ (kind : LineKind) {form : LineForm} (e : form ≡ lineForm kind) where
   pub name-short : form .1 ≤ 6
   name-short = rw name-length (leb→le _ _ (sized kind .1))
 
-  module _ {text : List ℕ} {at i : ℕ} (begun : Begun (form .0) (form .1) text at i) where
-    name-begun : begins (name kind) (drop at text) ≡ begins (drop i (name kind)) (drop (at + i) text)
-    name-begun = rw name-bytes at (begun .rest)
+  -- i of them stand at a place
+  module _ {text : List ℕ} {at i : ℕ} (begun : Begun (take (form .1) (form .0)) text at i) where
+    name-begun : Begun (name kind) text at i
+    name-begun = rw name-bytes at begun
 
-    pub name-found : form .1 ≤ i → form .1 ≡ cond (begins (name kind) (drop at text)) (length (name kind)) 0
-    unfolding begins
-    name-found end = rw (name-begun, drop-of-length-le (name kind) {i = i} (omega (arith, name-length))) name-length
+    pub form-found : form .1 ≤ i → form .1 ≡ cond (begins (name kind) (drop at text)) (length (name kind)) 0
+    form-found end = rw (name-found name-begun (omega (arith, name-length))) name-length
 
     module _ (below : i < form .1) {b : ℕ} (is : b ≡ getD text (at + i) 0) where
       in-name : i < length (name kind)
@@ -108,17 +79,11 @@ module _ (kind : LineKind) {form : LineForm} (e : form ≡ lineForm kind) where
       name-byte : getD (name kind) i 0 ≡ getD (form .0) i 0
       name-byte = rw (← name-bytes, getD-take (form .1) (form .0) i 0 below)
 
-      name-opened : begins (name kind) (drop at text) ≡ eqb b (getD (form .0) i 0) && begins (drop (i + 1) (name kind)) (drop (at + i + 1) text)
-      name-opened = rw (name-begun, begins-opened (name kind) text i (at + i) in-name, name-byte, is)
+      pub form-missing : (b ≡ getD (form .0) i 0 → ⊥) → 0 ≡ cond (begins (name kind) (drop at text)) (length (name kind)) 0
+      form-missing differs = rw (name-missing name-begun in-name is (λ h. differs (h ∙ name-byte)))
 
-      pub name-missing : (b ≡ getD (form .0) i 0 → ⊥) → 0 ≡ cond (begins (name kind) (drop at text)) (length (name kind)) 0
-      name-missing differs = rw (name-opened, ne-eqb _ _ differs)
-
-      pub name-goes : b ≡ getD (form .0) i 0 → Begun (form .0) (form .1) text at (i + 1)
-      name-goes same =
-          let p : 1 ≤ getD text (at + i) 0 = rw (← is, same, ← name-byte) (positive-at (name kind) (sized kind .4) i in-name) in
-          let q : at + i + 1 ≡ at + (i + 1) = omega arith in
-          record { most = omega arith; inside = omega (arith, there text (at + i) p); rest = rw (name-bytes, name-opened, eq-eqb _ _ same, q) }
+      pub form-goes : b ≡ getD (form .0) i 0 → Begun (take (form .1) (form .0)) text at (i + 1)
+      form-goes same = rw name-bytes (name-goes name-begun in-name is (positive-at (name kind) (sized kind .4) i in-name) (same ∙ sym name-byte))
 
 -- ---- fields
 
@@ -152,7 +117,7 @@ fields-few kind = leb→le (fieldCount kind) 8 (sized kind .3)
 module _ {kind : LineKind} {n : ℕ} {text : List ℕ} {at : ℕ} {values : List ℕ} {here k : ℕ} (read : Read kind n text at values here k)
     {b : ℕ} (is : b ≡ getD text here 0) where
   pub byte-inside : 1 ≤ b → here < length text
-  byte-inside h = there text here (rw (← is) h)
+  byte-inside = inside text here is
 
   module _ (below : k < n) where
     field-opened : lastFields kind (fieldCount kind - k) (drop here text)
@@ -161,7 +126,7 @@ module _ {kind : LineKind} {n : ℕ} {text : List ℕ} {at : ℕ} {values : List
     field-opened =
         let e : fieldCount kind - k ≡ suc (fieldCount kind - (k + 1)) = omega arith in
         let f : fieldCount kind - suc (fieldCount kind - (k + 1)) ≡ k = omega arith in
-        rw (e, f, getD-drop here text 0 0, drop-drop 1 here text, add-zero here, is)
+        rw (e, f, front-at text here is, drop-drop 1 here text)
 
     pub no-comma : (b ≡ comma → ⊥) → lastFields kind (fieldCount kind) (drop at text) ≡ malformed
     no-comma h = rw (read .reading, field-opened, ne-eqb _ _ h)
@@ -189,7 +154,7 @@ module _ {kind : LineKind} {n : ℕ} {text : List ℕ} {at : ℕ} {values : List
     unfolding lastFields
     end-opened =
         let e : k ≡ fieldCount kind = omega arith in
-        rw e at (read .reading) ∙ rw (sub-self, getD-drop here text 0 0, drop-drop 1 here text, add-zero here, is)
+        rw e at (read .reading) ∙ rw (sub-self, front-at text here is, drop-drop 1 here text)
 
     pub no-line-feed : (b ≡ lineFeed → ⊥) → lastFields kind (fieldCount kind) (drop at text) ≡ malformed
     no-line-feed h = rw (end-opened, ne-eqb _ _ h)

@@ -1,12 +1,13 @@
 // Lines of a text: a name, fields with a comma before each, LF.
 use fields::Field;
+use fields::byte;
 use fields::read_field;
 use model::FieldForm;
 use model::LineKind;
 ghost use mathlib.Core.Path.{_≡_};
 ghost use mathlib.Core.Bool.{cond};
 ghost use Prim.Native.Nat.{_-_, _≤_};
-ghost use lib.ListN.{length, getD, take, drop};
+ghost use lib.ListN.{length, take, drop};
 ghost use Rattle.model.specs.Text.{decimalCount, bitsCount, fieldCount, formOf, name, begins, lastFields, lineIn};
 ghost use Rattle.lines.specs.LineForm.{lineForm};
 ghost use Rattle.lines.specs.Found.{lineFound};
@@ -15,12 +16,6 @@ ghost use Rattle.lines.specs.Found.{lineFound};
 pub enum LineEnd {
     At(usize),
     Malformed,
-}
-
-fn byte(text: &[u8], at: usize) -> u8
-    ensures { λ r. ⌜ r ≡ getD (now (text .entry)) at 0 ⌝ }
-{
-    if at < text.len() { text[at] } else { 0 }
 }
 
 // ---- the forms of lines

@@ -25,7 +25,7 @@ use Rattle.lanes.specs.Lanes.{blockSize, laneAt}
 use Rattle.blend_tree.specs.Blocks.{Filled, Playable}
 use Rattle.blend_tree.proofs.NodeLaws.{passes}
 use Rattle.skeleton.specs.Buffer.{GlobalPoses, jointsWritten}
-use Rattle.output_pose.specs.Shown.{skeletonOf, Blended, Shown}
+use Rattle.output_pose.specs.Shown.{skeletonOf, StateShown, Blended, Shown}
 
 -- ---- blocks
 
@@ -85,12 +85,11 @@ blended-to plan numbers time factor state target parameters before after old new
     record { instances = rw (← same) h; output = rw (← same) k }
 
 module _ (plan : List ℕ) (numbers : List Float) (time instant : Float) (state : ℕ) (parameters before old : List Float) where
-  pub shown-idle : (t : Transition) (after new : List Float) → t ≡ Idle → after ≡ synchronize plan numbers parameters time state before
-      → new ≡ skeletonOf plan (statePose plan numbers parameters time state after) old
+  pub shown-idle : (t : Transition) (after new : List Float) → t ≡ Idle → StateShown plan numbers time state parameters before after old new
       → Shown plan numbers time instant state t parameters before after old new
   unfolding currentInstances instancesIn currentPose poseIn
-  shown-idle t after new e h k =
-      record { instances = λ p a b c. rw (e, a, b, c, h); output = λ p a b c. rw (e, a, b, c, ← h) k }
+  shown-idle t after new e s =
+      record { instances = λ p a b c. rw (e, a, b, c) (s .instances); output = λ p a b c. rw (e, a, b, c, ← s .instances) (s .output) }
 
   pub shown-running : (t : Transition) (start duration factor : Float) (target : ℕ) (current after new : List Float)
       → t ≡ Running start target duration → factor ≡ transitionFactor instant start duration

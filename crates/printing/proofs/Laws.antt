@@ -9,8 +9,8 @@ use native.Mathlib.Nat.{zero-add, pow-suc, div-lt-iff-lt-mul}
 use borrow.Author.Tests.{lt-ltb, le-ltb, ltb-false}
 use lib.Ieee.{Float, nan, binary32, toBits}
 use lib.Dec.{ltb}
-use lib.ListN.{length, getD, take, drop, set, length-append, length-drop}
-use lib.Seq.{sets, sets-eq, length-sets, set-comm, take-suc, getD-drop}
+use lib.ListN.{length, getD, take, set, length-append}
+use lib.Seq.{sets, sets-eq, length-sets, set-comm, take-suc}
 use Rattle.model.specs.declared.LineKind.the-variants.{Joint}
 use Rattle.model.specs.Text.{comma, lineFeed, name, overwritten}
 use Rattle.model.specs.Program.{glyph, digits, places, decimalText, bitsText, decimalFields, bitsFields, refusedLine, jointLine, joined}
@@ -100,26 +100,34 @@ unfolding decimalFields decimalText
 short-decimal m n small =
     omega (arith, ap length (append-nil (digits 10 (places 19 n) n)), length-digits 10 (places 19 n) n, few-places m 19 n small)
 
-bits-more : (vs : List ℕ) (v : ℕ) → bitsFields (vs ++ v ∷ []) ≡ bitsFields vs ++ comma ∷ bitsText v
+-- the bits of one float
+pub float-written : {xs ys : List ℕ} {at end : ℕ} (x : Float) (b : ℕ) → b ≡ toBits binary32 x → Written xs at (comma ∷ digits 16 8 b) ys end
+    → Written xs at (floatFields (x ∷ [])) ys end
+unfolding bitsFields bitsText
+float-written x b e p = rw (append-nil, ← e) p
+
+pub bits-append : (vs ws : List ℕ) → bitsFields (vs ++ ws) ≡ bitsFields vs ++ bitsFields ws
 unfolding bitsFields
-bits-more [] v = append-nil (comma ∷ bitsText v)
-bits-more (w ∷ vs) v = rw (bits-more vs v) (sym (append-assoc (comma ∷ bitsText w) (bitsFields vs) (comma ∷ bitsText v)))
+bits-append [] ws = refl
+bits-append (v ∷ vs) ws = rw (bits-append vs ws) (sym (append-assoc (comma ∷ bitsText v) (bitsFields vs) (bitsFields ws)))
+
+-- some floats and others right behind them
+pub floats-written : {xs ys zs : List ℕ} {at middle end : ℕ} (some others : List Float) → Written xs at (floatFields some) ys middle
+    → Written ys middle (floatFields others) zs end → Written xs at (floatFields (some ++ others)) zs end
+floats-written some others p q =
+    let to-bits = toBits binary32 in
+    rw (map-append to-bits some others, bits-append (map to-bits some) (map to-bits others)) (more-written p q)
 
 -- one float more
-pub next-float : {xs ys zs : List ℕ} {at middle end : ℕ} (floats : List Float) (from k b : ℕ) → from + k < length floats
-    → b ≡ toBits binary32 (getD floats (from + k) nan) → Written xs at (floatFields (take k (drop from floats))) ys middle
-    → Written ys middle (comma ∷ digits 16 8 b) zs end → Written xs at (floatFields (take (k + 1) (drop from floats))) zs end
-unfolding bitsText
-next-float floats from k b l e p q =
-    let rest = drop from floats in
-    let there : k < length rest = omega (arith, length-drop from floats) in
-    let bits = map-append (toBits binary32) (take k rest) (getD floats (from + k) nan ∷ []) in
-    rw (add-one k, take-suc rest k nan there, getD-drop from floats k nan, bits, ← e, bits-more (map (toBits binary32) (take k rest)) b) (more-written p q)
+pub next-float : {xs ys zs : List ℕ} {at middle end : ℕ} (floats : List Float) (k : ℕ) → k < length floats
+    → Written xs at (floatFields (take k floats)) ys middle → Written ys middle (floatFields (getD floats k nan ∷ [])) zs end
+    → Written xs at (floatFields (take (k + 1) floats)) zs end
+next-float floats k l p q = rw (add-one k, take-suc floats k nan l) (floats-written (take k floats) (getD floats k nan ∷ []) p q)
 
 -- ---- lines
 
 -- a text from the first byte on
-pub text-written : {xs text ys : List ℕ} {end : ℕ} → Written xs 0 text ys end → length text ≤ length xs
+pub text-written : {xs text ys : List ℕ} {end : ℕ} → Written xs 0 text ys end → end ≤ length xs
     → (end ≡ length text) × (ys ≡ overwritten text xs)
 unfolding overwritten
 text-written {xs = xs} {text = text} p room = (omega arith, p .stored ∙ sets-eq text xs 0 (omega arith) ∙ rw zero-add)
@@ -133,9 +141,9 @@ pub joint-written : {xs a b c : List ℕ} {at p q r : ℕ} (j : ℕ) (floats : L
 unfolding jointLine
 joint-written j floats w d f = more-written (more-written (more-written w d) f) (byte-written _ _ lineFeed)
 
-pub refusal-written : {xs a b c : List ℕ} {p q r : ℕ} (number place : ℕ) → Written xs 0 (114 ∷ 101 ∷ 102 ∷ 117 ∷ 115 ∷ 101 ∷ 100 ∷ []) a p
+pub refusal-written : {xs a b c : List ℕ} {at p q r : ℕ} (number place : ℕ) → Written xs at (114 ∷ 101 ∷ 102 ∷ 117 ∷ 115 ∷ 101 ∷ 100 ∷ []) a p
     → Written a p (decimalFields (number ∷ [])) b q → Written b q (decimalFields (place ∷ [])) c r
-    → Written xs 0 (refusedLine number place) (set c r lineFeed) (r + 1)
+    → Written xs at (refusedLine number place) (set c r lineFeed) (r + 1)
 unfolding refusedLine
 refusal-written number place w d e = rw (two-decimals number place) (more-written (more-written w (more-written d e)) (byte-written _ _ lineFeed))
 
@@ -144,3 +152,9 @@ pub next-line : {xs ys zs : List ℕ} {at middle end : ℕ} (n : ℕ) (lines : �
     → Written ys middle (lines n) zs end → Written xs at (joined (n + 1) lines) zs end
 unfolding joined
 next-line n lines p q = rw (add-one n) (more-written p q)
+
+-- equal lines make equal text
+pub joined-same : (n : ℕ) (f g : ℕ → List ℕ) → ((j : ℕ) → j < n → f j ≡ g j) → joined n f ≡ joined n g
+unfolding joined
+joined-same zero f g same = refl
+joined-same (suc n) f g same = rw (joined-same n f g (λ j h. same j (omega arith)), same n (omega arith))

@@ -87,15 +87,14 @@ pub fn put_bits(out: &mut [u8], at: usize, x: f32) -> usize
     put_field(out, at, 16, 8, bits(x))
 }
 
-// The bits of 16 floats from `from` on.
-fn put_floats(out: &mut [u8], at: usize, floats: &[f32], from: usize) -> usize
-    requires { ⌜ (at + 144 ≤ length (now out)) × (from + 16 ≤ length (now floats)) ⌝ }
-    ensures { λ r. ⌜ Written (now (out .entry)) at (floatFields (take 16 (drop from (now (floats .entry))))) (now (out .exit)) r × (r ≡ at + 144) ⌝ }
+pub fn put_floats(out: &mut [u8], at: usize, floats: &[f32]) -> usize
+    requires { ⌜ at + 9 * length (now floats) ≤ length (now out) ⌝ }
+    ensures { λ r. ⌜ Written (now (out .entry)) at (floatFields (now (floats .entry))) (now (out .exit)) r × (r ≡ at + 9 * length (now (floats .entry))) ⌝ }
 {
     let mut behind = at;
     let mut k = 0;
-    while k < 16 {
-        behind = put_bits(out, behind, floats[from + k]);
+    while k < floats.len() {
+        behind = put_bits(out, behind, floats[k]);
         k += 1;
     }
     behind
@@ -119,7 +118,9 @@ fn put_joint(out: &mut [u8], at: usize, j: usize, floats: &[f32]) -> usize
 {
     let behind_name = put_bytes(out, at, b"joint");
     let behind_index = put_decimal(out, behind_name, j);
-    let behind_floats = put_floats(out, behind_index, floats, 16 * j);
+    let from = 16 * j;
+    let end = from + 16;
+    let behind_floats = put_floats(out, behind_index, &floats[from..end]);
     out[behind_floats] = b'\n';
     behind_floats + 1
 }

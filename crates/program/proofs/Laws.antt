@@ -1,5 +1,5 @@
 -- What the program's parts come to, over plain values. Assumes nothing.
-use Prim.Native.Nat.{ℕ, zero, suc, _+_, _*_, _≤_, _<_}
+use Prim.Native.Nat.{ℕ, _+_, _*_, _≤_, _<_}
 use native.Mathlib.Omega.{arith}
 use mathlib.Core.Path.{_≡_, refl, sym, ap, _∙_}
 use mathlib.Core.List.{List}
@@ -25,16 +25,11 @@ use Rattle.model.specs.Promises.{Started, Framed, TextRead}
 use Rattle.model.specs.Laws.Output.{matrix-at, frame-length}
 use Rattle.model.specs.Laws.Passed.{initial-below, few-joints}
 use Rattle.model.specs.Laws.Reading.{figure-fits}
+use Rattle.printing.proofs.Laws.{joined-same}
 use Rattle.round_trip.specs.RoundTrip.{mostWords}
 use Rattle.round_trip.specs.Theorems.{words-most}
 
 -- ---- one frame
-
--- equal lines make equal text
-joined-same : (n : ℕ) (f g : ℕ → List ℕ) → ((j : ℕ) → j < n → f j ≡ g j) → joined n f ≡ joined n g
-unfolding joined
-joined-same zero f g same = refl
-joined-same (suc n) f g same = rw (joined-same n f g (λ j h. same j (omega arith)), same n (omega arith))
 
 module _ (plan : List ℕ) (numbers : List Float) (started : startVerdict plan numbers ≡ accepted) where
   pub few-shown : word plan jointCountAt ≤ 64

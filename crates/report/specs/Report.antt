@@ -1,8 +1,8 @@
 -- What a list of calls shows, as text: an answer, the player, the joints' matrices. Definitions only.
 use Prim.Native.Nat.{ℕ}
-use mathlib.Core.List.{List, [], _∷_, _++_, map}
+use mathlib.Core.List.{List, [], _∷_, _++_}
 use lib.ListN.{length, getD}
-use lib.Ieee.{Float, binary32, binary64, toBits}
+use lib.Ieee.{Float, binary64, toBits}
 use Rattle.model.specs.declared.Player.{Player}
 use Rattle.model.specs.declared.ClipInstance.{ClipInstance}
 use Rattle.model.specs.declared.Transition.{Transition}
@@ -11,15 +11,14 @@ use Rattle.model.specs.Answers.{Verdict, accepted, refused}
 use Rattle.model.specs.Text.{lineFeed, comma}
 use Rattle.model.specs.Clips.{instanceAt}
 use Rattle.model.specs.Plan.{maxClipNodes}
-use Rattle.model.specs.Program.{digits, decimalFields, bitsFields, refusedLine, jointLine, joined}
+use Rattle.model.specs.Program.{digits, decimalFields, refusedLine, jointLine, joined}
+use Rattle.model.specs.Table.{tableTo}
 use Rattle.model.specs.Run.{Observation}
+use Rattle.printing.specs.Written.{floatFields}
 
 -- the bits of a 64-bit float, every NaN as 7ff8000000000000, which is how toBits writes it
 abbrev pub wideField : Float → List ℕ
 wideField x = comma ∷ digits 16 16 (toBits binary64 x)
-
-abbrev pub floatFields : List Float → List ℕ
-floatFields xs = bitsFields (map (toBits binary32) xs)
 
 -- `ok`, by its bytes, or the refusal
 unfoldable pub answerLine : Verdict → List ℕ
@@ -40,6 +39,10 @@ playerLine clock speed state transition =
 -- a line for each of some joints' matrices
 unfoldable pub matrixLines : List (List Float) → List ℕ
 matrixLines ms = joined (length ms) (λ j. jointLine j (getD ms j []))
+
+-- 0, .., n - 1
+unfoldable pub below : ℕ → List ℕ
+below n = tableTo (λ l i. i) n
 
 -- what is compared of a call, as text
 unfoldable pub observationText : Observation → List ℕ

@@ -7,16 +7,17 @@ use printing::put_bits;
 use printing::put_bytes;
 use printing::put_decimal;
 use printing::put_field;
+use printing::put_floats;
 use printing::put_refusal;
 ghost use mathlib.Core.Path.{_≡_};
-ghost use mathlib.Core.List.{[], _∷_};
 ghost use Prim.Native.Nat.{_+_, _<_, _≤_};
-ghost use lib.ListN.{length, take};
+ghost use lib.ListN.{length};
+ghost use lib.Ieee.{binary64, toBits};
 ghost use Rattle.model.specs.Answers.{values};
 ghost use Rattle.model.specs.Program.{joined};
 ghost use Rattle.model.specs.Clips.{instanceAt};
 ghost use Rattle.printing.specs.Written.{Written};
-ghost use Rattle.report.specs.Report.{wideField, floatFields, answerLine, transitionFields, playerLine, parametersLine, instanceLine};
+ghost use Rattle.report.specs.Report.{wideField, answerLine, transitionFields, playerLine, parametersLine, instanceLine};
 
 pub fn put_answer(out: &mut [u8], at: usize, answer: Answer) -> usize
     requires { ⌜ at + 50 ≤ length (now out) ⌝ }
@@ -28,7 +29,9 @@ pub fn put_answer(out: &mut [u8], at: usize, answer: Answer) -> usize
     }
 }
 
-fn wide_bits(x: f64) -> usize {
+fn wide_bits(x: f64) -> usize
+    ensures { λ r. ⌜ r ≡ toBits binary64 x ⌝ }
+{
     f64_to_bits(x) as usize
 }
 
@@ -79,19 +82,6 @@ pub fn put_player(
 }
 
 // ---- the rest of the player
-
-fn put_floats(out: &mut [u8], at: usize, floats: &[f32]) -> usize
-    requires { ⌜ (length (now floats) < 65536) × (at + 9 * length (now floats) ≤ length (now out)) ⌝ }
-    ensures { λ r. ⌜ Written (now (out .entry)) at (floatFields (now (floats .entry))) (now (out .exit)) r × (r ≡ at + 9 * length (now (floats .entry))) ⌝ }
-{
-    let mut behind = at;
-    let mut k = 0;
-    while k < floats.len() {
-        behind = put_bits(out, behind, floats[k]);
-        k += 1;
-    }
-    behind
-}
 
 pub fn put_parameters(out: &mut [u8], at: usize, parameters: &[f32; 32]) -> usize
     requires { ⌜ at + 299 ≤ length (now out) ⌝ }

@@ -124,6 +124,16 @@ joint-more plan poseOf j old earlier =
     let s : 16 * suc j ≡ 16 * j + 16 = omega arith in
     rw (parent-back plan j ms back n earlier, stored-next ms (jointMatrix plan poseOf ms j) back j n, drop-drop 16 (outputAt j) old, add-one j, s)
 
+cond-same : {A : Type 0} (b : Bool) (x : A) → cond b x x ≡ x
+cond-same true x = refl
+cond-same false x = refl
+
+-- the buffer after the first joint: none is before it, so its parent's matrix is the identity whatever the plan says
+pub root-written : (plan : List ℕ) (poseOf : ℕ → Pose) (old : List Float) → stored old 0 (floats (product identityMatrix (toMatrix (poseOf 0)))) ≡ jointsWritten plan poseOf 1 old
+unfolding jointsWritten jointMatrices jointMatrix parentMatrix tableTo flat
+root-written plan poseOf old =
+    rw (cond-same (isRoot plan 0) identityMatrix) (stored-next [] (product identityMatrix (toMatrix (poseOf 0))) old 0 refl)
+
 -- `GlobalPoses` of the first i lanes is the loop's invariant
 module _ (plan : List ℕ) (block : List Float) (first : ℕ) where
   pub no-lanes : (before : List Float) → GlobalPoses plan block first 0 before before

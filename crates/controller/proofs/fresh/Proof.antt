@@ -3,7 +3,7 @@ use borrow.Author.Needs.{needs}
 use mathlib.Core.Path.{ap}
 use Rattle.model.specs.declared.Player.{Player}
 use Rattle.model.specs.Controller.{blank}
-use Rattle.controller.proofs.Frames.{fresh-made}
+use Rattle.controller.proofs.Laws.{fresh-made}
 use Rattle.controller.proofs.fresh.Statement.{statement}
 use Rattle.controller.proofs.fresh.Tie as tie
 

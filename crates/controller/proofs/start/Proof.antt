@@ -1,7 +1,8 @@
 -- `controller::start` meets its contract: a refusal of the check is handed on, else the player is fresh. Assumes nothing.
 use borrow.Author.Needs.{needs}
 use Rattle.blend_tree.specs.Blocks.{Playable}
-use Rattle.controller.proofs.Frames.{playable, start-handed, start-accepted}
+use Rattle.frames.proofs.Laws.{playable}
+use Rattle.controller.proofs.Laws.{start-handed, start-accepted}
 use Rattle.controller.proofs.start.Statement.{statement}
 use Rattle.controller.proofs.start.Tie as tie
 

@@ -6,15 +6,15 @@ use mathlib.Core.Path.{_≡_, refl}
 use Rattle.model.specs.Controller.{synchronizeStates}
 use Rattle.layout.proofs.Laws.{states-found, in-plan}
 use Rattle.blend_tree.proofs.NodeLaws.{passes}
-use Rattle.controller.proofs.Frames.{one-more-state}
+use Rattle.controller.proofs.Laws.{one-more-state}
 use Rattle.controller.proofs.synchronize_states.Statement.{statement}
 use Rattle.controller.proofs.synchronize_states.Tie as tie
 
 abbrev Inv-loop : tie.InvT-loop
-Inv-loop plan numbers layout parameters instances₀ s₀ instances s = (s ≤ layout .states) × (instances ≡ synchronizeStates plan numbers s instances₀)
+Inv-loop plan numbers layout parameters instances₀ slots₀ s₀ instances slots s = (s ≤ layout .states) × (instances ≡ synchronizeStates plan numbers s instances₀)
 
 abbrev μ-loop : tie.MeasureT-loop
-μ-loop plan numbers layout parameters instances₀ s₀ instances s = layout .states - s
+μ-loop plan numbers layout parameters instances₀ slots₀ s₀ instances slots s = layout .states - s
 
 loop-holds : tie.Need-loop-holds Inv-loop μ-loop
 unfolding synchronizeStates
@@ -25,7 +25,7 @@ state-layout-requires c κs = (passes (c .before .before .before .before .before
 
 synchronize-state-requires : tie.Need-synchronize-state-requires Inv-loop μ-loop
 synchronize-state-requires c κs =
-    let l = c .before in
+    let l = c .before .before in
     let i = l .before in
     let ok = i .before .before .before .before .before .pre .0 in
     (ok, in-plan _ _ (l .state-layout .ensures) (rw (← states-found _ (ok .found)) (i .if1 .taken)))
@@ -33,7 +33,7 @@ synchronize-state-requires c κs =
 loop-again : tie.Need-loop-again Inv-loop μ-loop
 unfolding synchronizeStates
 loop-again c =
-    let l = c .before .before in
+    let l = c .before .before .before in
     let i = l .before in
     let m = i .before .before in
     (omega (arith, i .if1 .taken), one-more-state _ _ _ _ _ _ _ _ (l .state-layout .ensures) (m .before .before .before .pre .1) (m .loop .inv .1) (c .synchronize-state .ensures .1))

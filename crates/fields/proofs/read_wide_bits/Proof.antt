@@ -1,61 +1,64 @@
 use borrow.Author.Needs.{needs}
+use Prim.Native.Nat.{_+_}
+use native.Mathlib.Omega.{arith}
+use mathlib.Core.Path.{refl}
+use Rattle.fields.specs.Found.{found}
+use Rattle.fields.specs.Wide.{wideBitsIn}
+use Rattle.fields.proofs.Laws.{Eight, run-inside, eight, digits-none, digits-read, second-half, halves}
 use Rattle.fields.proofs.read_wide_bits.Statement.{statement}
 use Rattle.fields.proofs.read_wide_bits.Tie as tie
-use Rattle.fields.proofs.read_wide_bits.Reads as reads
-use Rattle.fields.proofs.read_wide_bits.Lts as lts
-use Rattle.fields.proofs.numeral.Reads as numeral-reads
-use Rattle.fields.proofs.run_end.Reads as run-end-reads
 
--- src/lib.rt:101:9
-run-end-requires : tie.Need-run-end-requires
-run-end-requires c κs = search needs
-
--- src/lib.rt:102:8
-sub-if1 : tie.Need-sub-if1
-sub-if1 c = search needs
-
--- src/lib.rt:103:9
 returns : tie.Need-returns
-returns c = ?
+unfolding found wideBitsIn
+returns c = digits-none _ _ _ (c .before .run-end .ensures) 16 16 (c .if1 .taken)
 
--- src/lib.rt:105:34
-add-numeral : tie.Need-add-numeral
-add-numeral c = search needs
-
--- src/lib.rt:105:9
 numeral-requires : tie.Need-numeral-requires
-numeral-requires c κs = ?
+numeral-requires c κs =
+    let inside = run-inside 16 _ _ _ (c .before .run-end .ensures) (omega arith) in
+    (omega arith, omega arith, omega arith, omega arith, omega arith)
 
--- src/lib.rt:106:29
-add-numeral-2 : tie.Need-add-numeral-2
-add-numeral-2 c = search needs
-
--- src/lib.rt:106:9
 numeral-requires-2 : tie.Need-numeral-requires-2
-numeral-requires-2 c κs = ?
+numeral-requires-2 c κs =
+    let inside = run-inside 16 _ _ _ (c .before .before .run-end .ensures) (omega arith) in
+    (omega arith, inside, omega arith, omega arith, omega arith)
 
--- src/lib.rt:108:16
+-- both halves
+abbrev Halves : tie.After-numeral2 → Type 0
+Halves c =
+    let args = c .before .before .before .before .before .args in
+    Eight (args .text .now) (args .at) (c .before .numeral .result) × Eight (args .text .now) (args .at + 8) (c .numeral2 .result)
+
+both : (c : tie.After-numeral2) → Halves c
+both c =
+    let args = c .before .before .before .before .before .args in
+    let high = c .before .numeral .ensures in
+    let low = c .numeral2 .ensures in (
+      eight _ _ _ _ (omega arith) (omega arith) (high .0) (high .1),
+      eight _ _ _ _ (omega arith) (second-half (args .text .now) (args .at) (omega arith)) (low .0) (low .1),
+    )
+
 mul-t6 : tie.Need-mul-t6
-mul-t6 c = ?
+mul-t6 c = omega (arith, both c .0 .fits)
 
--- src/lib.rt:108:16
 add-t8 : tie.Need-add-t8
-add-t8 c = ?
+add-t8 c = omega (arith, both c .0 .fits, both c .1 .fits)
 
--- src/lib.rt:98:1
 returns-2 : tie.Need-returns-2
-returns-2 c = ?
+unfolding found wideBitsIn
+returns-2 c =
+    let e = c .before .before in
+    digits-read _ _ _ (e .before .run-end .ensures) 16 16 _ (e .if1 .left) refl (halves (both c .0) (both c .1))
 
 pub read-wide-bits-spec : {M : Type 1} → statement M
 read-wide-bits-spec =
     tie.close
     (tie.spec
-    run-end-requires
-    sub-if1
+    (search needs)
+    (search needs)
     returns
-    add-numeral
+    (search needs)
     numeral-requires
-    add-numeral-2
+    (search needs)
     numeral-requires-2
     mul-t6
     add-t8

@@ -2,7 +2,7 @@
 use borrow.Author.Needs.{needs}
 use native.Mathlib.Omega.{arith}
 use lib.ListN.{length-set}
-use Rattle.printing.proofs.Laws.{text-written, refusal-written}
+use Rattle.printing.proofs.Laws.{refusal-written}
 use Rattle.printing.proofs.put_refusal.Statement.{statement}
 use Rattle.printing.proofs.put_refusal.Tie as tie
 
@@ -12,8 +12,7 @@ returns c =
     let n = p .before .before .before .before in
     let s = n .before .before .before .before .before .before .before .before in
     let word = n .before .before .before .before .put-bytes .ensures in
-    let line = refusal-written (s .args .number) (s .args .place) word (n .put-decimal .ensures .0) (p .put-decimal2 .ensures .0) in
-    text-written line (omega arith)
+    (refusal-written (s .args .number) (s .args .place) word (n .put-decimal .ensures .0) (p .put-decimal2 .ensures .0), omega arith)
 
 pub put-refusal-spec : {M : Type 1} → statement M
 put-refusal-spec =

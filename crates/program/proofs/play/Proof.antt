@@ -1,5 +1,6 @@
 -- `program::play` meets its contract: a start that is refused is printed as such, and an accepted one hands over a fresh player. Assumes nothing.
 use borrow.Author.Needs.{needs}
+use Rattle.printing.proofs.Laws.{text-written}
 use Rattle.program.proofs.Laws.{refusal-played, start-accepted, player-fresh}
 use Rattle.program.proofs.play.Statement.{statement}
 use Rattle.program.proofs.play.Tie as tie
@@ -15,7 +16,7 @@ returns : tie.Need-returns
 returns c =
     let p = c .before .before in
     let t = p .before .before .before in
-    rw (refusal-played _ _ _ (t .before .before .start .ensures) _ _ (t .started .given .1)) at (p .put-refusal .ensures)
+    rw (refusal-played _ _ _ (t .before .before .start .ensures) _ _ (t .started .given .1)) at (text-written (p .put-refusal .ensures .0) (search needs))
 
 returns-2 : tie.Need-returns-2
 returns-2 c =

@@ -2,6 +2,7 @@
 use mathlib.Core.Path.{sym}
 use lib.Seq.{length-take-le}
 use borrow.Author.Needs.{needs}
+use Rattle.printing.proofs.Laws.{text-written}
 use Rattle.program.proofs.Laws.{refusal-printed, FigureRead, figure-read}
 use Rattle.program.proofs.read_and_play.Statement.{statement}
 use Rattle.program.proofs.read_and_play.Tie as tie
@@ -33,7 +34,7 @@ returns c =
     let t = p .before .before .before in
     let r = t .before .before .before .before in
     let a = r .before .before .before .before .before in
-    rw (refusal-printed _ _ _ _ _ _ (r .read .ensures) (a .pre .0) (search needs) (search needs) _ _ (t .read2 .given .1)) at (p .put-refusal .ensures)
+    rw (refusal-printed _ _ _ _ _ _ (r .read .ensures) (a .pre .0) (search needs) (search needs) _ _ (t .read2 .given .1)) at (text-written (p .put-refusal .ensures .0) (search needs))
 
 returns-2 : tie.Need-returns-2
 returns-2 c =

@@ -3,16 +3,20 @@ use Prim.Native.Nat.{_≤_}
 use native.Mathlib.Omega.{arith}
 use lib.Ieee.{ofBits}
 use borrow.Author.Needs.{needs}
+use Rattle.printing.proofs.Laws.{text-written}
 use Rattle.program.proofs.Laws.{few-shown, frame-lines}
 use Rattle.program.proofs.show.Statement.{statement}
 use Rattle.program.proofs.show.Tie as tie
+
+few-joints : (c : tie.After-word) → c .word .result ≤ 64
+few-joints c = rw (c .word .ensures .0) (few-shown _ _ (c .before .before .before .before .before .before .before .before .pre .0))
 
 put-joints-requires : tie.Need-put-joints-requires
 put-joints-requires c κs =
     let w = c .before in
     let f = w .before .before .before in
     let a = f .before .before .before .before .before in
-    let few : w .word .result ≤ 64 = rw (w .word .ensures .0) (few-shown _ _ (a .pre .0)) in
+    let few = few-joints w in
     (few, omega (arith, a .pre), omega (arith, f .frame .kept .1 .1 .1 .1 .0))
 
 returns : tie.Need-returns
@@ -22,7 +26,8 @@ returns c =
     let w = p .before .before in
     let f = w .before .before .before in
     let a = f .before .before .before .before .before in
-    rw (frame-lines _ _ (a .pre .0) _ _ _ _ _ (a .pre .1) (w .word .ensures .0) (search needs) (f .frame .ensures)) at (p .put-joints .ensures)
+    let few = few-joints w in
+    rw (frame-lines _ _ (a .pre .0) _ _ _ _ _ (a .pre .1) (w .word .ensures .0) (search needs) (f .frame .ensures)) at (text-written (p .put-joints .ensures .0) (omega arith))
 
 pub show-spec : {M : Type 1} → statement M
 show-spec = tie.close (tie.spec (search needs) (search needs) (search needs) (search needs) put-joints-requires (search needs) returns)

@@ -4,8 +4,10 @@ use borrow.Author.Needs.{needs}
 use Prim.Native.Nat.{ℕ, _+_, _<_}
 use native.Mathlib.Omega.{arith}
 use mathlib.Core.Path.{ap, _∙_}
+use lib.ListN.{getD}
 use borrow.Fn.Kinds.{In}
 use borrow.Fn.PlainCycle.{Measures, is, falls, and}
+use Rattle.model.specs.Plan.{maxClipNodes}
 use Rattle.model.specs.Clips.{localTime, instanceAt}
 use Rattle.animation.proofs.instance_at.Reads as instance-at-reads
 use Rattle.animation.proofs.local_time.Reads as local-time-reads
@@ -59,8 +61,9 @@ module _ (t : ℕ) where
   small : (c : lts.After-node-at (claims t) (node-poses-at t) reads.Post) → start c .args .node < 32
   small c = let r = start c .pre .1 in node-small (passes (r .0)) (r .1) (r .4)
 
-  instance-at-requires : lts.Need-instance-at-requires (claims t) (node-poses-at t) reads.Post
-  instance-at-requires c κs =
+  instance-there : (c : lts.After-instance-at-arg (claims t) (node-poses-at t) reads.Post)
+      → let a = start (c .before .before .before) .args in getD (a .slots .now) (a .node) 0 < maxClipNodes
+  instance-there c =
       let k = c .before .before .before in
       let r = start k .pre .1 in
       slot-small (passes (r .0)) (r .1) (r .4) (r .2) (is-clip _ _ _ (k .node-at .ensures) (c .before .if1 .taken))
@@ -117,9 +120,9 @@ pub +node-poses-spec : {M : Type 1} → statement M
     close μ-node-poses
     (λ t. lts.spec (claims t) (node-poses-at t) reads.Post
     (λ c κs. search needs)
-    (λ c. omega (arith, small t (c .before .before)))
     (λ c. small t (c .before .before))
-    (instance-at-requires t)
+    (λ c. omega (arith, instance-there t c))
+    (λ c κs. instance-there t c)
     (λ c κs. search needs)
     (clip-poses-requires t)
     (returns t)

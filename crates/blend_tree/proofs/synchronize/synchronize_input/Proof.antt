@@ -30,8 +30,8 @@ pub synchronize-input-spec : {M : Type 1} → statement M
 synchronize-input-spec =
     tie.close
     (tie.spec
-    (λ c. omega (arith, small (c .before .before)))
     (λ c. small (c .before .before))
+    (λ c. omega (arith, there (c .before .before .before)))
     (λ c κs. there (c .before .before .before .before))
     (λ c κs. search needs)
     (λ c κs. there (c .before .before .before .before .before .before .before))

@@ -1,0 +1,197 @@
+-- One line of a list of calls: its fields, its name, and the text that it uses up. Assumes nothing.
+use Prim.Native.Nat.{ℕ, _+_, _^_, _≤_, _<_}
+use native.Mathlib.Omega.{arith}
+use mathlib.Core.Path.{_≡_, refl, sym, ap, _∙_}
+use mathlib.Core.Bool.{Bool, true, false, cond}
+use mathlib.Core.List.{List, [], _∷_}
+use lib.Dec.{eqb}
+use lib.ListN.{length, getD, drop, length-drop}
+use lib.Seq.{drop-drop}
+use borrow.Author.Tests.{eq-eqb, ne-eqb, eqb-true}
+use Rattle.model.specs.declared.FieldForm.{FieldForm}
+use Rattle.model.specs.declared.FieldForm.the-variants.{Decimal, Bits}
+use Rattle.model.specs.Run as Run
+use Rattle.model.specs.Text as Text
+use Rattle.model.specs.Text.{front, comma, lineFeed, run, numeral, maxWord, none, field, fieldIn, begins}
+use Rattle.model.specs.Laws.Text.{field-law}
+use Rattle.fields.specs.declared.Field.{Field}
+use Rattle.fields.specs.declared.Field.the-variants.{Value, Nothing}
+use Rattle.fields.specs.Found.{found}
+use Rattle.fields.specs.Wide.{wideBitsIn}
+use Rattle.fields.proofs.Bytes.{there, front-at}
+use Rattle.calls.specs.declared.Call.{Call}
+use Rattle.calls.specs.declared.Call.the-variants.{Malformed}
+use Rattle.calls.specs.declared.CallAt.{CallAt}
+use Rattle.calls.specs.CallText.{updateName, speedName, setName, frameName, pageName, CallLine, malformed, line}
+use Rattle.calls.specs.CallText.{behindComma, fieldThen, wideField, bitsField, decimalField, lineEnd, updateLine, speedLine, setLine, frameLine, callIn}
+use Rattle.calls.specs.Read.{lineOf, lineEndOf, lineRead}
+
+-- ---- fields
+
+module _ (text : List ℕ) (at : ℕ) {b : ℕ} (is : b ≡ getD text at 0) where
+  module _ (read : List ℕ → Text.Field) where
+    pub no-comma : (b ≡ comma → ⊥) → none ≡ behindComma read (drop at text)
+    unfolding behindComma
+    no-comma h = rw (front-at text at is, ne-eqb b comma h)
+
+    pub behind-comma : b ≡ comma → behindComma read (drop at text) ≡ read (drop (at + 1) text)
+    unfolding behindComma
+    behind-comma h = rw (front-at text at is, eq-eqb b comma h, drop-drop 1 at text)
+
+  pub no-line-feed : (call : Call) → (b ≡ lineFeed → ⊥) → malformed ≡ lineEndOf call (drop at text)
+  unfolding lineEndOf
+  no-line-feed call h = rw (front-at text at is, ne-eqb b lineFeed h)
+
+  pub line-feed : (call : Call) → b ≡ lineFeed → lineOf call (drop (at + 1) text) ≡ lineEndOf call (drop at text)
+  unfolding lineEndOf
+  line-feed call h = rw (front-at text at is, eq-eqb b lineFeed h, drop-drop 1 at text)
+
+-- ---- lines
+
+pub malformed-read : (text : List ℕ) (r : CallAt) → r .call ≡ Malformed → lineRead text r ≡ malformed
+unfolding lineRead lineOf
+malformed-read text r e = rw e
+
+-- the field of a line was read to f, and `more` follows
+module _ (text : List ℕ) {f : Field} {s : Text.Field} (read : found text f ≡ s) (more : ℕ → List ℕ → CallLine) where
+  pub without : f ≡ Nothing → malformed ≡ fieldThen s more
+  unfolding found fieldThen
+  without e = rw (← read, e)
+
+  pub with-value : {v end : ℕ} → f ≡ Value v end → more v (drop end text) ≡ fieldThen s more
+  unfolding found fieldThen
+  with-value e = rw (← read, e)
+
+-- the program's call is the text's
+pub ends : (call : Call) {c : Run.Call} → ((rest : List ℕ) → lineOf call rest ≡ line c rest) → (s : List ℕ) → lineEndOf call s ≡ lineEnd c s
+unfolding lineEndOf lineEnd
+ends call is s = rw (is (drop 1 s))
+
+-- ---- names
+
+-- names that do not stand at a place, the last tested first
+pub data Misses (text : List ℕ) (at : ℕ) : List (List ℕ) → Type 0 where
+  none-tested : Misses text at []
+  missed : {name : List ℕ} {names : List (List ℕ)} → begins name (drop at text) ≡ false → Misses text at names → Misses text at (name ∷ names)
+
+pub update-named : (text : List ℕ) (at : ℕ) → begins updateName (drop at text) ≡ true → updateLine (drop (at + 6) text) ≡ callIn (drop at text)
+unfolding callIn
+update-named text at e = rw (e, drop-drop)
+
+module _ {text : List ℕ} {at : ℕ} where
+  pub speed-named : Misses text at (updateName ∷ []) → begins speedName (drop at text) ≡ true → speedLine (drop (at + 5) text) ≡ callIn (drop at text)
+  unfolding callIn
+  speed-named (missed u none-tested) e = rw (u, e, drop-drop)
+
+  pub set-named : Misses text at (speedName ∷ updateName ∷ []) → begins setName (drop at text) ≡ true → setLine (drop (at + 3) text) ≡ callIn (drop at text)
+  unfolding callIn
+  set-named (missed p (missed u none-tested)) e = rw (u, p, e, drop-drop)
+
+  pub frame-named : Misses text at (setName ∷ speedName ∷ updateName ∷ []) → begins frameName (drop at text) ≡ true
+      → frameLine Run.ordinary (drop (at + 5) text) ≡ callIn (drop at text)
+  unfolding callIn
+  frame-named (missed t (missed p (missed u none-tested))) e = rw (u, p, t, e, drop-drop)
+
+  pub page-named : Misses text at (frameName ∷ setName ∷ speedName ∷ updateName ∷ []) → begins pageName (drop at text) ≡ true
+      → frameLine Run.page (drop (at + 4) text) ≡ callIn (drop at text)
+  unfolding callIn
+  page-named (missed f (missed t (missed p (missed u none-tested)))) e = rw (u, p, t, f, e, drop-drop)
+
+  pub unnamed : Misses text at (pageName ∷ frameName ∷ setName ∷ speedName ∷ updateName ∷ []) → malformed ≡ callIn (drop at text)
+  unfolding callIn
+  unnamed (missed g (missed f (missed t (missed p (missed u none-tested))))) = rw (u, p, t, f, g)
+
+-- ---- a line uses up text
+
+none-field : {v : ℕ} {rest : List ℕ} → none ≡ field v rest → ⊥
+none-field e = let z : _≡_ {A = ℕ} 0 1 = cc in omega arith
+
+pub malformed-line : {c : Run.Call} {rest : List ℕ} → malformed ≡ line c rest → ⊥
+malformed-line e = let z : _≡_ {A = ℕ} 0 1 = cc in omega arith
+
+comma-field : (read : List ℕ → Text.Field) (s : List ℕ) {v : ℕ} {rest : List ℕ} → behindComma read s ≡ field v rest → read (drop 1 s) ≡ field v rest
+unfolding behindComma
+comma-field read s {v} {rest} e = at (eqb (front s) comma) e
+  where
+    at : (t : Bool) → cond t (read (drop 1 s)) none ≡ field v rest → read (drop 1 s) ≡ field v rest
+    at true e = e
+    at false e = absurd (none-field e)
+
+-- the bits of a 32-bit float fit 32 bits
+pub bits-fit : (text s : List ℕ) {f : Field} {v end : ℕ} → found text f ≡ bitsField s → f ≡ Value v end → v < 2 ^ 32
+unfolding found
+bits-fit text s {f} {v} {end} read e = omega (arith, field-law Bits (drop 1 s) v (drop end text) (comma-field (fieldIn Bits) s (sym read ∙ ap (found text) e)) .most)
+
+-- what is left behind a field is not longer
+abbrev Keeps : (List ℕ → Text.Field) → Type 0
+Keeps read = (s : List ℕ) (v : ℕ) (rest : List ℕ) → read s ≡ field v rest → length rest ≤ length s
+
+wide-keeps : Keeps wideBitsIn
+unfolding wideBitsIn
+wide-keeps s v rest e = at (eqb (run 16 s) 16) e
+  where
+    at : (t : Bool) → cond t (field (numeral 16 16 s) (drop 16 s)) none ≡ field v rest → length rest ≤ length s
+    at true e = let p : drop 16 s ≡ rest = cc in omega (arith, length-drop 16 s, ap length p)
+    at false e = absurd (none-field e)
+
+field-keeps : (form : FieldForm) → Keeps (fieldIn form)
+field-keeps form s v rest e = omega (arith, field-law form s v rest e .spent)
+
+comma-keeps : (read : List ℕ → Text.Field) → Keeps read → Keeps (behindComma read)
+comma-keeps read keeps s v rest e = omega (arith, length-drop 1 s, keeps (drop 1 s) v rest (comma-field read s e))
+
+-- what is left behind a line is shorter
+abbrev Spends : (List ℕ → CallLine) → Type 0
+Spends f = (s : List ℕ) (c : Run.Call) (rest : List ℕ) → f s ≡ line c rest → length rest < length s
+
+malformed-spends : Spends (λ s. malformed)
+malformed-spends s c rest e = absurd (malformed-line e)
+
+end-spends : (call : Run.Call) → Spends (lineEnd call)
+unfolding lineEnd
+end-spends call s c rest e = at (eqb (front s) lineFeed) refl e
+  where
+    at : (t : Bool) → eqb (front s) lineFeed ≡ t → cond t (line call (drop 1 s)) malformed ≡ line c rest → length rest < length s
+    at true t e =
+        let p : drop 1 s ≡ rest = cc in
+        let q : front s ≡ lineFeed = eqb-true (front s) lineFeed t in
+        omega (arith, length-drop 1 s, ap length p, there s 0 (omega arith))
+    at false t e = absurd (malformed-line e)
+
+then-spends : (read : List ℕ → Text.Field) (more : ℕ → List ℕ → CallLine) → Keeps read → ((v : ℕ) → Spends (more v)) → Spends (λ s. fieldThen (read s) more)
+unfolding fieldThen
+then-spends read more keeps spends s c rest e = at (read s) refl e
+  where
+    at : (f : Text.Field) → read s ≡ f → fieldThen f more ≡ line c rest → length rest < length s
+    at none h e = absurd (malformed-line e)
+    at (field v left) h e = omega (arith, keeps s v left h, spends v left c rest e)
+
+name-spends : (name : List ℕ) (f other : List ℕ → CallLine) → Spends f → Spends other → Spends (λ s. cond (begins name s) (f (drop (length name) s)) (other s))
+name-spends name f other spends others s c rest e = at (begins name s) e
+  where
+    at : (t : Bool) → cond t (f (drop (length name) s)) (other s) ≡ line c rest → length rest < length s
+    at true e = omega (arith, length-drop (length name) s, spends (drop (length name) s) c rest e)
+    at false e = others s c rest e
+
+wide-then : (more : ℕ → List ℕ → CallLine) → ((v : ℕ) → Spends (more v)) → Spends (λ s. fieldThen (wideField s) more)
+wide-then more = then-spends wideField more (comma-keeps wideBitsIn wide-keeps)
+
+decimal-then : (more : ℕ → List ℕ → CallLine) → ((v : ℕ) → Spends (more v)) → Spends (λ s. fieldThen (decimalField s) more)
+decimal-then more = then-spends decimalField more (comma-keeps (fieldIn (Decimal maxWord)) (field-keeps (Decimal maxWord)))
+
+bits-then : (more : ℕ → List ℕ → CallLine) → ((v : ℕ) → Spends (more v)) → Spends (λ s. fieldThen (bitsField s) more)
+bits-then more = then-spends bitsField more (comma-keeps (fieldIn Bits) (field-keeps Bits))
+
+frame-spends : (kind : Run.FrameKind) → Spends (frameLine kind)
+unfolding frameLine
+frame-spends kind = wide-then _ (λ d. decimal-then _ (λ n. end-spends _))
+
+pub call-spends : Spends callIn
+unfolding callIn updateLine speedLine setLine
+call-spends =
+    name-spends updateName updateLine _ (wide-then _ (λ d. end-spends _))
+    (name-spends speedName speedLine _ (wide-then _ (λ d. end-spends _))
+    (name-spends setName setLine _ (decimal-then _ (λ n. bits-then _ (λ v. end-spends _)))
+    (name-spends frameName (frameLine Run.ordinary) _ (frame-spends Run.ordinary)
+    (name-spends pageName (frameLine Run.page) _ (frame-spends Run.page)
+    malformed-spends))))

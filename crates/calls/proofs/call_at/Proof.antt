@@ -1,0 +1,105 @@
+-- `calls::call_at` meets its contract. Assumes nothing.
+use borrow.Author.Needs.{needs}
+use native.Mathlib.Omega.{arith}
+use mathlib.Core.Path.{sym, _∙_}
+use mathlib.Core.List.{[], _∷_}
+use Rattle.fields.proofs.Bytes.{positive-at}
+use Rattle.calls.specs.CallText.{updateName, speedName, setName, frameName, pageName}
+use Rattle.calls.proofs.LineLaws.{malformed-read, Misses, none-tested, missed, update-named, speed-named, set-named, frame-named, page-named, unnamed}
+use Rattle.calls.proofs.call_at.Statement.{statement}
+use Rattle.calls.proofs.call_at.Tie as tie
+
+-- the names that were tested
+
+past-update : (c : tie.Else1) → let a = c .before .before .before .before .args in Misses (a .text .now) (a .at) (updateName ∷ [])
+past-update c = missed (sym (c .before .begins .ensures .0) ∙ c .if1 .left) none-tested
+
+past-speed : (c : tie.Else2) → let a = c .before .before .before .before .before .before .before .args in Misses (a .text .now) (a .at) (speedName ∷ updateName ∷ [])
+past-speed c = missed (sym (c .before .begins2 .ensures .0) ∙ c .if2 .left) (past-update (c .before .before .before))
+
+past-set : (c : tie.Else3) → let a = c .before .before .before .before .before .before .before .before .before .before .args in Misses (a .text .now) (a .at) (setName ∷ speedName ∷ updateName ∷ [])
+past-set c = missed (sym (c .before .begins3 .ensures .0) ∙ c .if3 .left) (past-speed (c .before .before .before))
+
+past-frame : (c : tie.Else4) → let a = c .before .before .before .before .before .before .before .before .before .before .before .before .before .args in Misses (a .text .now) (a .at) (frameName ∷ setName ∷ speedName ∷ updateName ∷ [])
+past-frame c = missed (sym (c .before .begins4 .ensures .0) ∙ c .if4 .left) (past-set (c .before .before .before))
+
+past-page : (c : tie.Else5) → let a = c .before .before .before .before .before .before .before .before .before .before .before .before .before .before .before .before .args in Misses (a .text .now) (a .at) (pageName ∷ frameName ∷ setName ∷ speedName ∷ updateName ∷ [])
+past-page c = missed (sym (c .before .begins5 .ensures .0) ∙ c .if5 .left) (past-frame (c .before .before .before))
+
+-- a name that stands in the text ends inside it
+
+add-update-line : tie.Need-add-update-line
+add-update-line c = omega (arith, c .before .begins .ensures .1 (c .if1 .taken))
+
+add-speed-line : tie.Need-add-speed-line
+add-speed-line c = omega (arith, c .before .begins2 .ensures .1 (c .if2 .taken))
+
+add-set-line : tie.Need-add-set-line
+add-set-line c = omega (arith, c .before .begins3 .ensures .1 (c .if3 .taken))
+
+add-frame-line : tie.Need-add-frame-line
+add-frame-line c = omega (arith, c .before .begins4 .ensures .1 (c .if4 .taken))
+
+add-frame-line-2 : tie.Need-add-frame-line-2
+add-frame-line-2 c = omega (arith, c .before .begins5 .ensures .1 (c .if5 .taken))
+
+returns : tie.Need-returns
+returns c =
+    let b = c .before .before in
+    let a = b .before .before .before .args in
+    c .update-line .ensures ∙ update-named (a .text .now) (a .at) (sym (b .begins .ensures .0) ∙ c .before .if1 .taken)
+
+returns-2 : tie.Need-returns-2
+returns-2 c =
+    let b = c .before .before in
+    c .speed-line .ensures ∙ speed-named (past-update (b .before .before)) (sym (b .begins2 .ensures .0) ∙ c .before .if2 .taken)
+
+returns-3 : tie.Need-returns-3
+returns-3 c =
+    let b = c .before .before in
+    c .set-line .ensures ∙ set-named (past-speed (b .before .before)) (sym (b .begins3 .ensures .0) ∙ c .before .if3 .taken)
+
+returns-4 : tie.Need-returns-4
+returns-4 c =
+    let b = c .before .before in
+    c .frame-line .ensures ∙ frame-named (past-set (b .before .before)) (sym (b .begins4 .ensures .0) ∙ c .before .if4 .taken)
+
+returns-5 : tie.Need-returns-5
+returns-5 c =
+    let b = c .before .before in
+    c .frame-line2 .ensures ∙ page-named (past-frame (b .before .before)) (sym (b .begins5 .ensures .0) ∙ c .before .if5 .taken)
+
+returns-6 : tie.Need-returns-6
+returns-6 c = malformed-read _ _ (c .malformed .ensures) ∙ unnamed (past-page (c .before))
+
+pub call-at-spec : {M : Type 1} → statement M
+call-at-spec =
+    tie.close
+    (tie.spec
+    (search needs)
+    (λ c κs. positive-at updateName tt)
+    add-update-line
+    (search needs)
+    returns
+    (search needs)
+    (λ c κs. positive-at speedName tt)
+    add-speed-line
+    (search needs)
+    returns-2
+    (search needs)
+    (λ c κs. positive-at setName tt)
+    add-set-line
+    (search needs)
+    returns-3
+    (search needs)
+    (λ c κs. positive-at frameName tt)
+    add-frame-line
+    (search needs)
+    returns-4
+    (search needs)
+    (λ c κs. positive-at pageName tt)
+    add-frame-line-2
+    (search needs)
+    returns-5
+    (search needs)
+    returns-6)

@@ -1,0 +1,2 @@
+-- Laws for the proofs of a frame and a page frame
+pub mod Laws

@@ -1,0 +1,55 @@
+-- `frames::play` meets its contract: the step's player is the one that is shown. Assumes nothing.
+use borrow.Author.Needs.{needs}
+use Rattle.model.specs.declared.Player.{Player}
+use Rattle.model.specs.Controller.{nowAt, elapsed}
+use Rattle.layout.proofs.Laws.{in-plan}
+use Rattle.blend_tree.proofs.NodeLaws.{passes}
+use Rattle.frames.specs.Parts.{playerOf}
+use Rattle.frames.proofs.Laws.{still-below, still-target, played}
+use Rattle.frames.proofs.play.Statement.{statement}
+use Rattle.frames.proofs.play.Tie as tie
+
+-- the player whose parts were lent
+abbrev player : tie.Start → Player
+player s = let a = s .args in playerOf (a .clock) (a .speed) (a .state) (a .transition) (a .parameters .now) (a .instances .now)
+
+state-layout-requires : tie.Need-state-layout-requires
+state-layout-requires c κs =
+    let s = c .before .before .before in
+    (passes (s .pre .0), s .pre .0 .found, s .pre .1)
+
+step-requires : tie.Need-step-requires
+step-requires c κs =
+    let s = c .before .before .before .before in
+    (passes (s .pre .0), in-plan _ _ (c .state-layout .ensures) (s .pre .1))
+
+layout-of-requires : tie.Need-layout-of-requires
+unfolding nowAt
+layout-of-requires c κs =
+    let l = c .before in
+    let s = l .before .before .before .before in
+    (passes (s .pre .0), s .pre .0 .found, in-plan _ _ (l .state-layout .ensures) (s .pre .1), still-below _ _ (player s) _ _ _ (l .state-layout .ensures) (c .step .ensures) (s .pre .0 .passed) (s .pre .1) (s .pre .2))
+
+show-requires : tie.Need-show-requires
+unfolding nowAt
+show-requires c κs =
+    let h = c .before .before .before in
+    let t = h .before in
+    let l = t .before in
+    let s = l .before .before .before .before in
+    let below = still-below _ _ (player s) _ _ _ (l .state-layout .ensures) (t .step .ensures) (s .pre .0 .passed) (s .pre .1) (s .pre .2) in
+    let target = still-target _ _ (player s) _ _ _ (l .state-layout .ensures) (t .step .ensures) (s .pre .0 .passed) (s .pre .1) (s .pre .2) in
+    (s .pre .0, in-plan _ _ (h .layout-of .ensures) below, target, s .pre .3)
+
+returns : tie.Need-returns
+unfolding nowAt elapsed
+returns c =
+    let w = c .before .before in
+    let n = w .before .before .before in
+    let h = n .before in
+    let t = h .before in
+    let l = t .before in
+    played _ _ _ _ _ _ (l .state-layout .ensures) (t .step .ensures) _ (h .layout-of .ensures) _ (n .narrow .ensures) _ _ _ (w .show .ensures)
+
+pub play-spec : {M : Type 1} → statement M
+play-spec = tie.close (tie.spec state-layout-requires step-requires layout-of-requires (search needs) show-requires (search needs) returns)

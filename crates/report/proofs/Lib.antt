@@ -1,0 +1,2 @@
+-- Laws for the proofs of what is reported
+pub mod Laws
