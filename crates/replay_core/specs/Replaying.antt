@@ -4,6 +4,7 @@ use mathlib.Core.Path.{_≡_}
 use mathlib.Core.List.{List, [], _++_}
 use lib.ListN.{length, take, drop}
 use lib.Ieee.{Float}
+use Rattle.model.specs.declared.Answer.{Answer}
 use Rattle.model.specs.declared.Player.{Player}
 use Rattle.model.specs.Answers.{values, unlessRefused}
 use Rattle.model.specs.Plan.{jointCount}
@@ -22,6 +23,12 @@ use Rattle.replay_core.specs.Replay.{reportFrom, playerAfter, startText}
 pub record Front (text out : List ℕ) (n : ℕ) : Type 0 where
   pub inside : n ≤ length out
   pub front : take n out ≡ text
+
+-- a call that has no matrices to show
+pub record NothingShown (a : Answer) (p : Player) (r : CallDone) : Type 0 where
+  pub answer : r .answer ≡ a
+  pub player : r .player ≡ p
+  pub joints : r .joints ≡ 0
 
 -- one call: its answer, its player, and the floats that hold the matrices to be shown
 pub record Done (plan : List ℕ) (numbers : List Float) (p : Player) (c : Call) (floats : List Float) (r : CallDone) : Type 0 where
@@ -47,13 +54,21 @@ pub record Beginning (plan : List ℕ) (numbers : List Float) (out : List ℕ) (
   pub player : r .player ≡ startPlayer plan numbers
   pub text : Front (startText plan numbers) out (r .length)
 
--- calls performed one after the other as long as `out` has room for a report: what they show stands in its front, and what is left shows the rest
+-- some of a list's calls are performed: those that are left are read from the byte `at` on, and show what is not shown yet
+pub record Rest (plan : List ℕ) (numbers : List Float) (text : List ℕ) (p : Player) (cs : List Call) (front : List ℕ) (at lines : ℕ) (q : Player) : Type 0 where
+  pub left : List Call
+  pub read : readCalls lines (drop at text) ≡ calls left
+  pub shown : reportFrom plan numbers p cs ≡ front ++ reportFrom plan numbers q left
+  pub player : playerAfter plan numbers p cs ≡ playerAfter plan numbers q left
+
+-- calls performed one after the other as long as `out` has room for a report, which is at least one call in 10,000 bytes: what they show stands in its front
 pub record Performing (plan : List ℕ) (numbers : List Float) (text : List ℕ) (at lines : ℕ) (p : Player) (out : List ℕ) (r : Progress) : Type 0 where
   pub inside : r .length ≤ length out
   pub fewer : 10000 ≤ length out → 0 < lines → r .lines < lines
-  pub rest : (cs : List Call) → readCalls lines (drop at text) ≡ calls cs → List Call
-  pub read : (cs : List Call) (e : readCalls lines (drop at text) ≡ calls cs) → readCalls (r .lines) (drop (r .at) text) ≡ calls (rest cs e)
-  pub shown : (cs : List Call) (e : readCalls lines (drop at text) ≡ calls cs)
-      → reportFrom plan numbers p cs ≡ take (r .length) out ++ reportFrom plan numbers (r .player) (rest cs e)
-  pub player : (cs : List Call) (e : readCalls lines (drop at text) ≡ calls cs)
-      → playerAfter plan numbers p cs ≡ playerAfter plan numbers (r .player) (rest cs e)
+  pub rest : (cs : List Call) → readCalls lines (drop at text) ≡ calls cs → Rest plan numbers text p cs (take (r .length) out) (r .at) (r .lines) (r .player)
+
+-- calls performed until no line is left, and what all of them show
+pub data Steps (plan : List ℕ) (numbers : List Float) (text : List ℕ) : ℕ → ℕ → Player → List ℕ → Player → Type 0 where
+  ended : {at : ℕ} {p : Player} → Steps plan numbers text at 0 p [] p
+  performed : {at lines : ℕ} {p q : Player} {out shown : List ℕ} {r : Progress} → Performing plan numbers text at lines p out r
+      → Steps plan numbers text (r .at) (r .lines) (r .player) shown q → Steps plan numbers text at lines p (take (r .length) out ++ shown) q

@@ -23,12 +23,14 @@ use report::put_player;
 ghost use mathlib.Core.Path.{_≡_};
 ghost use Prim.Native.Nat.{_+_, _≤_};
 ghost use lib.ListN.{length};
+ghost use Rattle.model.specs.declared.Answer.the-variants as Answer;
 ghost use Rattle.model.specs.Run.{Frame};
+ghost use Rattle.model.specs.Promises.{Framed};
 ghost use Rattle.calls.specs.Read.{kindOf};
 ghost use Rattle.printing.specs.Written.{Written};
 ghost use Rattle.report.specs.Report.{endText};
 ghost use Rattle.replay_core.specs.Replay.{malformedLine};
-ghost use Rattle.replay_core.specs.Replaying.{Front, Done, Called, callText, Beginning, Performing};
+ghost use Rattle.replay_core.specs.Replaying.{Front, NothingShown, Done, Called, callText, Beginning, Performing};
 
 // The longest report of a call, with 64 joints, is shorter.
 const MOST_REPORT: usize = 10000;
@@ -57,7 +59,9 @@ pub struct Progress {
 // ---- one call
 
 // A call that has no matrices to show.
-fn done(outcome: Outcome) -> CallDone {
+fn done(outcome: Outcome) -> CallDone
+    ensures { λ r. ⌜ NothingShown (outcome .answer) (outcome .player) r ⌝ }
+{
     let answer = outcome.answer;
     let player = outcome.player;
     CallDone {
@@ -68,12 +72,13 @@ fn done(outcome: Outcome) -> CallDone {
 }
 
 // A call that is never refused.
-fn accepted(player: Player) -> CallDone {
-    CallDone {
+fn accepted(player: Player) -> CallDone
+    ensures { λ r. ⌜ NothingShown Answer.Accepted player r ⌝ }
+{
+    done(Outcome {
         answer: Answer::Accepted,
         player: player,
-        joints: 0,
-    }
+    })
 }
 
 fn frame_of(
@@ -83,7 +88,9 @@ fn frame_of(
     is_page: bool,
     ext: f64,
     output: &mut [f32],
-) -> Outcome {
+) -> Outcome
+    ensures { λ r. ⌜ Framed (kindOf «is_page») (now (plan .entry)) (now (numbers .entry)) player ext (now (output .entry)) (now (output .exit)) r ⌝ }
+{
     if is_page {
         return page_frame(plan, numbers, player, ext, output);
     }
@@ -171,9 +178,9 @@ fn put_call(out: &mut [u8], at: usize, call: CallDone, floats: &[f32]) -> usize
 pub fn begin(plan: &[u16], numbers: &[f32], out: &mut [u8; 16384]) -> Begun
     ensures { λ r. ⌜ Beginning (now (plan .entry)) (now (numbers .entry)) (now (out .exit)) r ⌝ }
 {
-    let outcome = start(plan, numbers);
-    let answer = outcome.answer;
-    let player = outcome.player;
+    let started = start(plan, numbers);
+    let answer = started.answer;
+    let player = started.player;
     let transition = player.transition;
     let at = put_answer(out, 0, answer);
     let length = put_player(

@@ -1,0 +1,168 @@
+-- One call: what a frame leaves to be shown, and what is put for a call. Assumes nothing.
+use Prim.Native.Nat.{ℕ, _+_, _*_, _≤_}
+use native.Mathlib.Omega.{arith}
+use mathlib.Core.Path.{_≡_, refl, sym, ap, _∙_}
+use mathlib.Core.Logic.{_⊎_, inl, inr}
+use mathlib.Core.List.{List, [], _++_, map, append-assoc}
+use lib.Dec.{leb}
+use lib.ListN.{length, getD, take, drop, length-append}
+use lib.Seq.{sets-eq, length-take-le, take-append-seam}
+use lib.Ieee.{Float}
+use borrow.Author.Tests.{le-leb}
+use Rattle.model.specs.declared.Player.{Player}
+use Rattle.model.specs.declared.Outcome.{Outcome}
+use Rattle.model.specs.declared.Answer.{Answer}
+use Rattle.model.specs.declared.Answer.the-variants.{Accepted, Refused}
+use Rattle.model.specs.declared.Matrix4.{Matrix4}
+use Rattle.model.specs.Rotations.{identityMatrix, floats}
+use Rattle.model.specs.Answers.{Verdict, accepted, refused, values, _then_, require, unlessRefused}
+use Rattle.model.specs.Plan.{jointCountAt, word, jointCount, outputAt}
+use Rattle.model.specs.Check.{check}
+use Rattle.model.specs.Controller.{frameVerdict}
+use Rattle.model.specs.Skeleton.{flat, written}
+use Rattle.model.specs.Program.{jointLine, joined}
+use Rattle.model.specs.Run.{FrameKind, frameMatrices, Call, Frame, callVerdict, changed, after, chosenFloats, observation}
+use Rattle.model.specs.Promises.{Started, Framed}
+use Rattle.model.specs.Laws.Answers.{then-left}
+use Rattle.model.specs.Laws.Output.{matrix-at, frame-length}
+use Rattle.model.specs.Laws.Passed.{few-joints}
+use Rattle.printing.specs.Written.{Written}
+use Rattle.printing.proofs.Laws.{more-written, length-written, joined-same}
+use Rattle.calls.specs.declared.Call as Read
+use Rattle.calls.specs.declared.Call.the-variants as read
+use Rattle.calls.specs.CallText.{line}
+use Rattle.calls.specs.Read.{lineOf}
+use Rattle.report.specs.Report.{below, matrixLines, answerLine, playerLine, observationText}
+use Rattle.report.proofs.Laws.{no-matrix-lines, matrix-lines-below}
+use Rattle.replay_core.specs.declared.CallDone.{CallDone}
+use Rattle.replay_core.specs.Replay.{startText}
+use Rattle.replay_core.specs.Replaying.{Front, NothingShown, Done, Called, callText, Beginning}
+
+-- ---- texts put into a slice
+
+-- what stands before the place behind a text
+pub front-written : {xs ys text : List ℕ} {at end : ℕ} → Written xs at text ys end → end ≤ length xs → take end ys ≡ take at xs ++ text
+front-written {xs = xs} {text = text} {at = at} {end = end} p room =
+    let e : end ≡ length (take at xs ++ text) = omega (arith, length-append (take at xs) text, length-take-le at xs (omega arith)) in
+    ap (take end) (p .stored ∙ sets-eq text xs at (omega arith)) ∙ rw e (take-append-seam (take at xs ++ text) (drop (at + length text) xs))
+
+-- a text from the first byte on
+pub front-put : {xs ys text : List ℕ} {end : ℕ} → Written xs 0 text ys end → end ≤ length xs → Front text ys end
+front-put p room = record { inside = omega (arith, length-written p); front = front-written p room }
+
+-- ---- room for a frame
+
+room-same : (v a b : Verdict) (need room n : ℕ) → (v ≡ accepted → (need ≤ room) × (need ≤ n))
+    → (v then a then b then require (leb need room) 10 0) ≡ (v then a then b then require (leb need n) 10 0)
+unfolding _then_
+room-same accepted a b need room n fits = rw (le-leb need room (fits refl .0), le-leb need n (fits refl .1))
+room-same (refused number place rest) a b need room n fits = refl
+
+-- no frame that the plan's check lets pass needs more than 1,024 floats
+pub frame-room : (plan : List ℕ) (numbers : List Float) (p : Player) (room n : ℕ) → (room ≡ n) ⊎ ((room ≡ 1024) × (1024 ≤ n))
+    → frameVerdict plan numbers p room ≡ frameVerdict plan numbers p n
+unfolding frameVerdict
+frame-room plan numbers p room n (inl e) = rw e
+frame-room plan numbers p room n (inr h) =
+    room-same (check plan (length numbers)) _ _ (outputAt (jointCount plan)) room n
+    (λ e. let few : jointCount plan ≤ 64 = few-joints plan (length numbers) e in (omega (arith, h), omega (arith, h)))
+
+-- ---- one call
+
+pub unless-same : {A : Type 0} (v : Verdict) (a : A) → unlessRefused v a a ≡ a
+unfolding unlessRefused
+unless-same accepted a = refl
+unless-same (refused number place rest) a = refl
+
+module _ (plan : List ℕ) (numbers : List Float) (p : Player) (floats : List Float) where
+  -- a call that shows no matrices
+  pub nothing-done : (c : Call) {a : Answer} {q : Player} {d : CallDone} → values a ≡ callVerdict plan numbers p c → q ≡ after plan numbers p c
+      → unlessRefused (callVerdict plan numbers p c) (chosenFloats plan numbers (below (jointCount plan)) p c) [] ≡ [] → NothingShown a q d
+      → Done plan numbers p c floats d
+  unfolding joined
+  nothing-done c answer player none h =
+      record {
+        answer = ap values (h .answer) ∙ answer;
+        player = h .player ∙ player;
+        few = omega arith;
+        shown = rw (h .joints, none, no-matrix-lines);
+      }
+
+-- a frame whose output was the front of the floats, and is answered as one of length n
+module _ (plan : List ℕ) (numbers : List Float) (p : Player) (kind : FrameKind) (ext : Float) (old new : List Float) (r : Outcome)
+    (framed : Framed kind plan numbers p ext old new r) (n : ℕ) (same : frameVerdict plan numbers p (length old) ≡ frameVerdict plan numbers p n) (d : CallDone)
+  where
+    frame-answer : values (r .answer) ≡ callVerdict plan numbers p (Frame kind ext n)
+    unfolding callVerdict
+    frame-answer = framed .answer ∙ same
+
+    frame-player : r .player ≡ after plan numbers p (Frame kind ext n)
+    unfolding callVerdict changed after
+    frame-player = rw (← same) (framed .player)
+
+    pub frame-refused : (number place : ℕ) (floats : List Float) → r .answer ≡ Refused number place → NothingShown (r .answer) (r .player) d
+        → Done plan numbers p (Frame kind ext n) floats d
+    unfolding values unlessRefused
+    frame-refused number place floats e h =
+        let v : callVerdict plan numbers p (Frame kind ext n) ≡ refused number place 0 = sym frame-answer ∙ ap values e in
+        nothing-done plan numbers p floats (Frame kind ext n) frame-answer frame-player (rw v) h
+
+    module _ (rest : List Float) (e : r .answer ≡ Accepted) where
+      frame-accepted : frameVerdict plan numbers p (length old) ≡ accepted
+      unfolding values
+      frame-accepted = sym (framed .answer) ∙ ap values e
+
+      few-shown : jointCount plan ≤ 64
+      unfolding frameVerdict
+      few-shown = few-joints plan (length numbers) (then-left _ _ (then-left _ _ (then-left _ _ frame-accepted)))
+
+      abbrev matrices : List Matrix4
+      matrices = frameMatrices plan numbers p ext kind
+
+      lines : joined (jointCount plan) (λ j. jointLine j (take 16 (drop (16 * j) (new ++ rest)))) ≡ matrixLines (map (λ j. floats (getD matrices j identityMatrix)) (below (jointCount plan)))
+      unfolding unlessRefused written
+      lines =
+          let o : new ≡ flat matrices ++ drop (outputAt (jointCount plan)) old = rw frame-accepted at (framed .output) in
+          rw (matrix-lines-below, o, append-assoc)
+          (joined-same (jointCount plan) _ _ (λ j h. ap (jointLine j) (matrix-at matrices _ j (omega (arith, frame-length plan numbers p ext kind)))))
+
+      pub frame-done : d .answer ≡ r .answer → d .player ≡ r .player → d .joints ≡ word plan jointCountAt → Done plan numbers p (Frame kind ext n) (new ++ rest) d
+      unfolding callVerdict chosenFloats unlessRefused jointCount
+      frame-done a q count =
+          record {
+            answer = ap values a ∙ frame-answer;
+            player = q ∙ frame-player;
+            few = omega (arith, few-shown);
+            shown = rw (← same, frame-accepted, count) lines;
+          }
+
+-- ---- the call of a line
+
+module _ (plan : List ℕ) (numbers : List Float) (p : Player) (floats : List Float) (d : CallDone) (call : Read.Call) where
+  pub called : (k : Read.Call) (c : Call) → call ≡ k → ((s : List ℕ) → lineOf k s ≡ line c s) → Done plan numbers p c floats d → Called plan numbers p call floats d
+  called k c e is h =
+      record {
+        few = h .few;
+        done = λ x s rest t. let same : c ≡ x = cc (is s) in rw same at h;
+      }
+
+  pub malformed-called : call ≡ read.Malformed → NothingShown Accepted p d → Called plan numbers p call floats d
+  unfolding lineOf
+  malformed-called e h = record { few = omega arith; done = λ x s rest t. absurd (let z : _≡_ {A = ℕ} 0 1 = cc in omega arith) }
+
+-- ---- what is put for a call
+
+pub call-text : (plan : List ℕ) (numbers : List Float) (p : Player) (c : Call) (floats : List Float) (d : CallDone) → Done plan numbers p c floats d
+    → callText d floats ≡ observationText (observation (callVerdict plan numbers p c) (after plan numbers p c) (chosenFloats plan numbers (below (jointCount plan)) p c))
+unfolding callText observationText observation
+call-text plan numbers p c floats d h = rw (h .answer, h .player, h .shown)
+
+-- ---- the start
+
+pub begun : (plan : List ℕ) (numbers : List Float) (r : Outcome) {xs ys zs : List ℕ} {middle end : ℕ} → Started plan numbers r
+    → Written xs 0 (answerLine (values (r .answer))) ys middle
+    → Written ys middle (playerLine (r .player .clock) (r .player .speed) (r .player .state) (r .player .transition)) zs end → end ≤ length xs
+    → Beginning plan numbers zs (record { player = r .player; length = end })
+unfolding startText
+begun plan numbers r started answer player room =
+    record { player = started .player; text = rw (← started .answer, ← started .player) (front-put (more-written answer player) room) }

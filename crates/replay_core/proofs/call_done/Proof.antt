@@ -1,0 +1,71 @@
+-- `replay_core::call_done` meets its contract: each line's call is the one that is performed. Assumes nothing.
+use mathlib.Core.Path.{refl}
+use mathlib.Core.List.{[]}
+use borrow.Author.Needs.{needs}
+use Rattle.model.specs.Answers.{values, unlessRefused}
+use Rattle.model.specs.Run as Run
+use Rattle.model.specs.Run.{callVerdict, changed, after, chosenFloats}
+use Rattle.calls.specs.Read.{kindOf, lineOf}
+use Rattle.replay_core.proofs.Laws.{unless-same, nothing-done, called, malformed-called}
+use Rattle.replay_core.proofs.call_done.Statement.{statement}
+use Rattle.replay_core.proofs.call_done.Tie as tie
+
+returns : tie.Need-returns
+returns c = (malformed-called _ _ _ _ _ _ (c .before .enum-told .given .1) (c .accepted .ensures), search needs)
+
+returns-2 : tie.Need-returns-2
+unfolding lineOf values callVerdict changed after chosenFloats unlessRefused
+returns-2 c =
+    let u = c .before in
+    let k = Run.Update _ in
+    (called _ _ _ _ _ _ _ k (u .before .before .call .given .1) (λ s. refl) (nothing-done _ _ _ _ k refl (u .update .ensures .player) refl (c .accepted2 .ensures)), search needs)
+
+returns-3 : tie.Need-returns-3
+unfolding lineOf values callVerdict changed after chosenFloats unlessRefused
+returns-3 c =
+    let u = c .before in
+    let k = Run.Speed _ in
+    (called _ _ _ _ _ _ _ k (u .before .before .call2 .given .1) (λ s. refl) (nothing-done _ _ _ _ k refl (u .speed .ensures .player) refl (c .accepted3 .ensures)), search needs)
+
+returns-4 : tie.Need-returns-4
+unfolding lineOf callVerdict changed after chosenFloats
+returns-4 c =
+    let u = c .before in
+    let k = Run.Set _ _ in (
+      called _ _ _ _ _ _ _ k (u .before .before .call3 .given .1) (λ s. refl)
+          (nothing-done _ _ _ _ k (u .set .ensures .answer) (u .set .ensures .player) (unless-same _ []) (c .done .ensures)),
+      search needs,
+    )
+
+returns-5 : tie.Need-returns-5
+unfolding lineOf
+returns-5 c =
+    let f = c .before .before in
+    let t = f .before .before .before .call4 .given in (
+      called _ _ _ _ _ _ _ (Run.Frame (kindOf (t .0 .0)) (t .0 .1 .0) (t .0 .1 .1 .0)) (t .1) (λ s. refl) (f .frame-done .ensures .0),
+      f .frame-done .ensures .1,
+    )
+
+pub call-done-spec : {M : Type 1} → statement M
+call-done-spec =
+    tie.close
+    (tie.spec
+    (search needs)
+    (search needs)
+    (search needs)
+    (search needs)
+    (search needs)
+    (search needs)
+    (search needs)
+    (search needs)
+    (search needs)
+    (search needs)
+    (search needs)
+    (search needs)
+    (search needs)
+    returns
+    returns-2
+    returns-3
+    returns-4
+    (search needs)
+    returns-5)
