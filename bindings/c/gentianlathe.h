@@ -78,9 +78,8 @@ typedef char gentianlathe_player_has_952_bytes[sizeof(gentianlathe_player) == 95
  *   11      a line of text is malformed, missing, too much, or has too large a count that line, from 1
  *   12      the plan or the numbers do not fit into the slices lent for them         0
  *
- * Words are counted from 0. A refused call writes nothing to an output, a plan or numbers, and leaves the
- * player as it was, up to what means nothing: a running above 1 may become 1, and an idle player's start,
- * target and duration may become 0. (A refused start is the exception: it stores the blank player.)
+ * Words are counted from 0. A refused call writes nothing to an output, a plan or numbers, and leaves every
+ * field of the player as it was. (A refused start is the exception: it stores the blank player.)
  */
 typedef struct gentianlathe_answer {
     size_t number;

@@ -17,7 +17,7 @@ use Rattle.calls.specs.declared.Call.{Call}
 use Rattle.calls.specs.declared.Call.the-variants.{Malformed, Update, Speed, Set, Frame}
 use Rattle.calls.specs.declared.CallAt.{CallAt}
 use Rattle.calls.specs.CallText.{CallLine, malformed, line, callIn, CallList, badLine, calls, withCall, lineThen, readCalls, lineCount, callList}
-use Rattle.calls.specs.Read.{kindOf, lineOf, isMalformed, lineRead, firstMalformed}
+use Rattle.calls.specs.Read.{lineOf, isMalformed, lineRead, firstMalformed}
 use Rattle.calls.proofs.LineLaws.{malformed-read, malformed-line, call-spends}
 
 -- ---- what the program's call stands for

@@ -6,15 +6,11 @@ use lib.ListN.{drop}
 use lib.Dec.{eqb}
 use Rattle.model.specs.Text.{front, lineFeed}
 use Rattle.model.specs.Run as Run
-use Rattle.model.specs.Run.{FrameKind, ordinary, page}
+use Rattle.model.specs.Run.{kindOf}
 use Rattle.calls.specs.declared.Call.{Call}
 use Rattle.calls.specs.declared.Call.the-variants.{Malformed, Update, Speed, Set, Frame}
 use Rattle.calls.specs.declared.CallAt.{CallAt}
 use Rattle.calls.specs.CallText.{CallLine, malformed, line, CallList, badLine, calls}
-
--- the kind of frame that a line asks for
-abbrev pub kindOf : Bool → FrameKind
-kindOf isPage = cond isPage page ordinary
 
 unfoldable pub lineOf : Call → List ℕ → CallLine
 lineOf Malformed rest = malformed

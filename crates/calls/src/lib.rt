@@ -11,9 +11,10 @@ ghost use mathlib.Core.Bool.{true};
 ghost use Prim.Native.Nat.{ℕ, _-_, _≤_, _<_};
 ghost use lib.ListN.{length, drop, getD};
 ghost use Rattle.model.specs.Text.{begins};
+ghost use Rattle.model.specs.Run.{kindOf};
 ghost use Rattle.fields.specs.Found.{found};
 ghost use Rattle.calls.specs.CallText.{wideField, bitsField, decimalField, updateLine, speedLine, setLine, frameLine, callIn, readCalls, lineCount, callList};
-ghost use Rattle.calls.specs.Read.{kindOf, isMalformed, lineEndOf, lineRead, firstMalformed};
+ghost use Rattle.calls.specs.Read.{isMalformed, lineEndOf, lineRead, firstMalformed};
 ghost use Rattle.calls.specs.declared.Call.the-variants as Call;
 
 // What a line asks for. A frame has its ext and the output's length.

@@ -1,5 +1,2 @@
--- The flat player and answers, there and back
-pub mod Flat
--- What the exported calls ensure
-pub mod FlatPromises
-pub mod FlatParts
+-- What hosts can count on beside the contracts
+pub mod Theorems

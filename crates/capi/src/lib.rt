@@ -1,153 +1,24 @@
-// The static library: the calls for hosts in C and Rust. A player crosses as a flat struct, since the interface has no enums, and stays in the host's memory.
-// No call asks anything of the player's content.
-use controller::set;
-use controller::speed;
-use controller::start;
-use controller::update;
-use frames::FrameParts;
+// The static library: the calls for hosts in C and Rust. A player stays in the host's memory, as a flat struct. No call asks anything of its content.
+use flat::FlatAnswer;
+use flat::FlatPlayer;
+use flat::FlatTextAnswer;
+use flat::flat_frame;
+use flat::flat_text_answer;
+use flat::parameter_set;
+use flat::started;
+use flat::updated;
+use flat::with_speed;
 use layout::JOINT_COUNT_AT;
 use layout::word;
-use model::Answer;
-use model::Outcome;
-use model::Player;
-use model::TextAnswer;
-use model::Transition;
 use skeleton::output_at;
 ghost use mathlib.Core.Path.{_≡_};
 ghost use Prim.Native.Nat.{_/_};
-ghost use Rattle.model.specs.Answers.{values};
 ghost use Rattle.model.specs.Plan.{jointCount, outputAt};
-ghost use Rattle.model.specs.Run.{FrameKind};
+ghost use Rattle.model.specs.Run.{FrameKind, kindOf};
 ghost use Rattle.round_trip.specs.RoundTrip.{mostWords};
-ghost use Rattle.capi.specs.Flat.{transitionOf, unpacked, packed, flatAnswer};
-ghost use Rattle.capi.specs.FlatPromises.{FlatStarted, FlatUpdated, FlatSpeedSet, FlatParameterSet, FlatFramed, FlatTextRead};
-ghost use Rattle.capi.specs.FlatParts.{kindOf, flatOf, answerOf};
+ghost use Rattle.flat.specs.FlatPromises.{FlatStarted, FlatUpdated, FlatSpeedSet, FlatParameterSet, FlatFramed, FlatTextRead};
 
-// Start, target and duration count where `running` is not 0.
-#[repr(C)]
-pub struct FlatPlayer {
-    pub clock: f64,
-    pub speed: f64,
-    pub state: usize,
-    pub running: usize,
-    pub start: f64,
-    pub target: usize,
-    pub duration: f32,
-    pub parameters: [f32; 32],
-    pub instances: [f32; 192],
-}
-
-// Number 0 is the acceptance.
-#[repr(C)]
-pub struct FlatAnswer {
-    pub number: usize,
-    pub place: usize,
-}
-
-// How many words and numbers were written, where the text was accepted.
-#[repr(C)]
-pub struct FlatTextAnswer {
-    pub number: usize,
-    pub place: usize,
-    pub words: usize,
-    pub numbers: usize,
-}
-
-// ---- there and back
-
-fn transition_of(running: usize, start: f64, target: usize, duration: f32) -> Transition
-    ensures { λ r. ⌜ r ≡ transitionOf running start target duration ⌝ }
-{
-    if running == 0 {
-        return Transition::Idle;
-    }
-    Transition::Running {
-        start: start,
-        target: target,
-        duration: duration,
-    }
-}
-
-fn unpack(flat: FlatPlayer) -> Player
-    ensures { λ r. ⌜ r ≡ unpacked flat ⌝ }
-{
-    let parameters = flat.parameters;
-    let instances = flat.instances;
-    let transition = transition_of(flat.running, flat.start, flat.target, flat.duration);
-    Player {
-        clock: flat.clock,
-        speed: flat.speed,
-        state: flat.state,
-        transition: transition,
-        parameters: parameters,
-        instances: instances,
-    }
-}
-
-fn pack(player: Player) -> FlatPlayer
-    ensures { λ r. ⌜ r ≡ packed player ⌝ }
-{
-    let parameters = player.parameters;
-    let instances = player.instances;
-    let transition = player.transition;
-    match transition {
-        Transition::Idle => FlatPlayer {
-            clock: player.clock,
-            speed: player.speed,
-            state: player.state,
-            running: 0,
-            start: 0.0,
-            target: 0,
-            duration: 0.0,
-            parameters: parameters,
-            instances: instances,
-        },
-        Transition::Running {
-            start,
-            target,
-            duration,
-        } => FlatPlayer {
-            clock: player.clock,
-            speed: player.speed,
-            state: player.state,
-            running: 1,
-            start: start,
-            target: target,
-            duration: duration,
-            parameters: parameters,
-            instances: instances,
-        },
-    }
-}
-
-fn flat_answer(answer: Answer) -> FlatAnswer
-    ensures { λ r. ⌜ r ≡ flatAnswer (values answer) ⌝ }
-{
-    match answer {
-        Answer::Accepted => FlatAnswer {
-            number: 0,
-            place: 0,
-        },
-        Answer::Refused { number, place } => FlatAnswer {
-            number: number,
-            place: place,
-        },
-    }
-}
-
-// ---- start, update, speed, set: the work is done on players by value, and the exported functions only load and store the host's
-
-fn flat_player(outcome: Outcome) -> FlatPlayer
-    ensures { λ r. ⌜ r ≡ packed (outcome .player) ⌝ }
-{
-    pack(outcome.player)
-}
-
-fn answer_of(outcome: Outcome) -> FlatAnswer
-    ensures { λ r. ⌜ r ≡ flatAnswer (values (outcome .answer)) ⌝ }
-{
-    flat_answer(outcome.answer)
-}
+// ---- start, update, speed, set
 
 #[no_mangle]
 pub extern "C" fn gentianlathe_start(
@@ -157,15 +28,9 @@ pub extern "C" fn gentianlathe_start(
 ) -> FlatAnswer
     ensures { λ r. ⌜ FlatStarted (now (plan .entry)) (now (numbers .entry)) (now (player .exit)) r ⌝ }
 {
-    let outcome = start(plan, numbers);
-    *player = flat_player(outcome);
-    answer_of(outcome)
-}
-
-fn updated(flat: FlatPlayer, delta: f64) -> FlatPlayer
-    ensures { λ r. ⌜ FlatUpdated flat delta r ⌝ }
-{
-    pack(update(unpack(flat), delta))
+    let outcome = started(plan, numbers);
+    *player = outcome.player;
+    outcome.answer
 }
 
 #[no_mangle]
@@ -175,40 +40,11 @@ pub extern "C" fn gentianlathe_update(player: &mut FlatPlayer, delta: f64)
     *player = updated(*player, delta);
 }
 
-fn with_speed(flat: FlatPlayer, value: f64) -> FlatPlayer
-    ensures { λ r. ⌜ FlatSpeedSet flat value r ⌝ }
-{
-    pack(speed(unpack(flat), value))
-}
-
 #[no_mangle]
 pub extern "C" fn gentianlathe_speed(player: &mut FlatPlayer, value: f64)
     ensures { λ _. ⌜ FlatSpeedSet (now (player .entry)) value (now (player .exit)) ⌝ }
 {
     *player = with_speed(*player, value);
-}
-
-// A flat player and the answer of the call that changed it, or not.
-struct FlatOutcome {
-    answer: FlatAnswer,
-    player: FlatPlayer,
-}
-
-fn parameter_set(flat: FlatPlayer, parameter: usize, value: f32) -> FlatOutcome
-    ensures { λ r. ⌜ FlatParameterSet flat parameter value (r .player) (r .answer) ⌝ }
-{
-    let outcome = set(unpack(flat), parameter, value);
-    let answer = outcome.answer;
-    let Answer::Accepted = answer else {
-        return FlatOutcome {
-            answer: flat_answer(answer),
-            player: flat,
-        };
-    };
-    FlatOutcome {
-        answer: flat_answer(answer),
-        player: flat_player(outcome),
-    }
 }
 
 #[no_mangle]
@@ -225,145 +61,6 @@ pub extern "C" fn gentianlathe_set(
 }
 
 // ---- frame and page frame: the host's arrays are lent where they lie
-
-// What a frame stores beside the instances, and its answer.
-struct FlatFrame {
-    number: usize,
-    place: usize,
-    state: usize,
-    running: usize,
-    start: f64,
-    target: usize,
-    duration: f32,
-}
-
-// What an accepted frame stores.
-fn accepted(parts: FrameParts) -> FlatFrame {
-    let transition = parts.transition;
-    match transition {
-        Transition::Idle => FlatFrame {
-            number: 0,
-            place: 0,
-            state: parts.state,
-            running: 0,
-            start: 0.0,
-            target: 0,
-            duration: 0.0,
-        },
-        Transition::Running {
-            start,
-            target,
-            duration,
-        } => FlatFrame {
-            number: 0,
-            place: 0,
-            state: parts.state,
-            running: 1,
-            start: start,
-            target: target,
-            duration: duration,
-        },
-    }
-}
-
-// A frame or a page frame, by the player's parts.
-fn frame_parts(
-    is_page: bool,
-    plan: &[u16],
-    numbers: &[f32],
-    clock: f64,
-    speed: f64,
-    state: usize,
-    transition: Transition,
-    parameters: &[f32; 32],
-    instances: &mut [f32; 192],
-    ext: f64,
-    output: &mut [f32],
-) -> FrameParts {
-    if is_page {
-        return frames::page_frame(
-            plan,
-            numbers,
-            clock,
-            speed,
-            state,
-            transition,
-            parameters,
-            instances,
-            ext,
-            output,
-        );
-    }
-    frames::frame(
-        plan,
-        numbers,
-        clock,
-        speed,
-        state,
-        transition,
-        parameters,
-        instances,
-        ext,
-        output,
-    )
-}
-
-// On the flat player's parts. Refused, they are handed back as they came.
-fn flat_frame(
-    is_page: bool,
-    plan: &[u16],
-    numbers: &[f32],
-    clock: f64,
-    speed: f64,
-    state: usize,
-    running: usize,
-    start: f64,
-    target: usize,
-    duration: f32,
-    parameters: &[f32; 32],
-    instances: &mut [f32; 192],
-    ext: f64,
-    output: &mut [f32],
-) -> FlatFrame
-    ensures { λ r. ⌜ FlatFramed (kindOf «is_page») (now (plan .entry)) (now (numbers .entry)) (flatOf clock speed state running start target duration (now (parameters .entry)) (now (instances .entry))) ext (now (output .entry)) (now (output .exit)) (flatOf clock speed (r .state) (r .running) (r .start) (r .target) (r .duration) (now (parameters .entry)) (now (instances .exit))) (answerOf r) ⌝ }
-{
-    let transition = transition_of(running, start, target, duration);
-    let parts = frame_parts(
-        is_page,
-        plan,
-        numbers,
-        clock,
-        speed,
-        state,
-        transition,
-        parameters,
-        instances,
-        ext,
-        output,
-    );
-    let answer = parts.answer;
-    let Answer::Refused { number, place } = answer else {
-        return accepted(parts);
-    };
-    FlatFrame {
-        number: number,
-        place: place,
-        state: state,
-        running: running,
-        start: start,
-        target: target,
-        duration: duration,
-    }
-}
-
-fn frame_answer(frame: FlatFrame) -> FlatAnswer
-    ensures { λ r. ⌜ r ≡ answerOf frame ⌝ }
-{
-    FlatAnswer {
-        number: frame.number,
-        place: frame.place,
-    }
-}
 
 fn frame_in_place(
     is_page: bool,
@@ -396,7 +93,10 @@ fn frame_in_place(
     (*player).start = frame.start;
     (*player).target = frame.target;
     (*player).duration = frame.duration;
-    frame_answer(frame)
+    FlatAnswer {
+        number: frame.number,
+        place: frame.place,
+    }
 }
 
 #[no_mangle]
@@ -435,21 +135,7 @@ pub extern "C" fn gentianlathe_read_text(
 ) -> FlatTextAnswer
     ensures { λ r. ⌜ FlatTextRead (now (text .entry)) (now (plan .entry)) (now (plan .exit)) (now (numbers .entry)) (now (numbers .exit)) r ⌝ }
 {
-    let answer = text::read(text, plan, numbers);
-    match answer {
-        TextAnswer::Accepted { words, numbers: n } => FlatTextAnswer {
-            number: 0,
-            place: 0,
-            words: words,
-            numbers: n,
-        },
-        TextAnswer::Refused { number, place } => FlatTextAnswer {
-            number: number,
-            place: place,
-            words: 0,
-            numbers: 0,
-        },
-    }
+    flat_text_answer(text::read(text, plan, numbers))
 }
 
 // ---- sizes

@@ -18,10 +18,10 @@ ghost use Rattle.model.specs.Answers.{values, refused};
 ghost use Rattle.model.specs.Plan.{stateCount};
 ghost use Rattle.model.specs.Clips.{blankInstances};
 ghost use Rattle.model.specs.Controller.{blank, fresh, synchronizeStates};
-ghost use Rattle.model.specs.Run.{FrameKind};
+ghost use Rattle.model.specs.Run.{FrameKind, kindOf};
 ghost use Rattle.model.specs.Promises.{Started, Updated, SpeedSet, ParameterSet, Framed};
 ghost use Rattle.blend_tree.specs.Blocks.{Playable};
-ghost use Rattle.frames.specs.Parts.{kindOf, outcomeOf};
+ghost use Rattle.frames.specs.Parts.{outcomeOf};
 
 fn blank_instances() -> [f32; 192]
     ensures { λ r. ⌜ r ≡ blankInstances 64 ⌝ }

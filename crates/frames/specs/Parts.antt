@@ -1,19 +1,14 @@
 -- A player by its parts, as functions have it that borrow its arrays. Definitions only.
 use Prim.Native.Nat.{ℕ}
 use mathlib.Core.Path.{_≡_}
-use mathlib.Core.Bool.{Bool, cond}
 use mathlib.Core.List.{List}
 use lib.Ieee.{Float}
 use Rattle.model.specs.declared.Player.{Player}
 use Rattle.model.specs.declared.Outcome.{Outcome}
 use Rattle.model.specs.declared.Transition.{Transition}
 use Rattle.model.specs.Skeleton.{written}
-use Rattle.model.specs.Run.{FrameKind, ordinary, page, framePlayer, frameMatrices}
+use Rattle.model.specs.Run.{ordinary, framePlayer, frameMatrices}
 use Rattle.frames.specs.declared.FrameParts.{FrameParts}
-
--- the kind of frame that a flag asks for
-abbrev pub kindOf : Bool → FrameKind
-kindOf isPage = cond isPage page ordinary
 
 -- the player that has these parts
 abbrev pub playerOf : Float → Float → ℕ → Transition → List Float → List Float → Player

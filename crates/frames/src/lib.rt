@@ -21,12 +21,12 @@ ghost use lib.ListN.{length};
 ghost use Rattle.model.specs.Answers.{values, refused};
 ghost use Rattle.model.specs.Plan.{jointCount, stateCount, outputAt};
 ghost use Rattle.model.specs.Controller.{isTargetBelow};
-ghost use Rattle.model.specs.Run.{FrameKind};
+ghost use Rattle.model.specs.Run.{FrameKind, kindOf};
 ghost use Rattle.model.specs.Promises.{Framed};
 ghost use Rattle.plan.specs.Checked.{verdict};
 ghost use Rattle.layout.specs.Layout.{layoutOf, stateLayout, Passes, InPlan};
 ghost use Rattle.blend_tree.specs.Blocks.{Playable};
-ghost use Rattle.frames.specs.Parts.{kindOf, playerOf, outcomeOf, Played};
+ghost use Rattle.frames.specs.Parts.{playerOf, outcomeOf, Played};
 
 // The answer, and the parts that a frame hands back; the instances are changed where they are.
 pub struct FrameParts {

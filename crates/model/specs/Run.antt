@@ -1,5 +1,6 @@
 -- Document 01, the calls, and the run by definition with what is compared of it. Definitions only.
 use Prim.Native.Nat.{ℕ}
+use mathlib.Core.Bool.{Bool, cond}
 use mathlib.Core.List.{List, [], _∷_, map}
 use lib.ListN.{getD, length}
 use lib.Ieee.{Float}
@@ -25,6 +26,10 @@ startPlayer plan numbers = unlessRefused (startVerdict plan numbers) (fresh plan
 
 pub data FrameKind : Type 0 where
   ordinary page : FrameKind
+
+-- by a flag
+abbrev pub kindOf : Bool → FrameKind
+kindOf isPage = cond isPage page ordinary
 
 -- what a kind of frame makes of the finished matrices
 unfoldable pub shown : FrameKind → List Matrix4 → List Matrix4

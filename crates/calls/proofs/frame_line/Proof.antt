@@ -3,7 +3,8 @@ use borrow.Author.Needs.{needs}
 use mathlib.Core.Path.{ap, _∙_}
 use Rattle.model.specs.Run as Run
 use Rattle.calls.specs.CallText.{line, frameLine}
-use Rattle.calls.specs.Read.{kindOf, lineOf}
+use Rattle.model.specs.Run.{kindOf}
+use Rattle.calls.specs.Read.{lineOf}
 use Rattle.calls.proofs.LineLaws.{malformed-read, without, with-value, ends}
 use Rattle.calls.proofs.frame_line.Statement.{statement}
 use Rattle.calls.proofs.frame_line.Tie as tie

@@ -5,7 +5,8 @@ use borrow.Author.Needs.{needs}
 use Rattle.model.specs.Answers.{values, unlessRefused}
 use Rattle.model.specs.Run as Run
 use Rattle.model.specs.Run.{callVerdict, changed, after, chosenFloats}
-use Rattle.calls.specs.Read.{kindOf, lineOf}
+use Rattle.model.specs.Run.{kindOf}
+use Rattle.calls.specs.Read.{lineOf}
 use Rattle.replay_core.proofs.Laws.{unless-same, nothing-done, called, malformed-called}
 use Rattle.replay_core.proofs.call_done.Statement.{statement}
 use Rattle.replay_core.proofs.call_done.Tie as tie

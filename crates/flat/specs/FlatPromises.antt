@@ -11,10 +11,10 @@ use Rattle.model.specs.Controller.{updated, withSpeed, parameterSet, setVerdict
 use Rattle.model.specs.Skeleton.{written}
 use Rattle.model.specs.Text.{readFigure, textVerdict, whenAccepted, overwritten, readWords, readFloats}
 use Rattle.model.specs.Run.{startVerdict, startPlayer, FrameKind, framePlayer, frameMatrices}
-use Rattle.capi.specs.declared.FlatPlayer.{FlatPlayer}
-use Rattle.capi.specs.declared.FlatAnswer.{FlatAnswer}
-use Rattle.capi.specs.declared.FlatTextAnswer.{FlatTextAnswer}
-use Rattle.capi.specs.Flat.{unpacked, packed, flatAnswer, flatTextAnswer}
+use Rattle.flat.specs.declared.FlatPlayer.{FlatPlayer}
+use Rattle.flat.specs.declared.FlatAnswer.{FlatAnswer}
+use Rattle.flat.specs.declared.FlatTextAnswer.{FlatTextAnswer}
+use Rattle.flat.specs.Flat.{unpacked, packed, flatAnswer, flatTextAnswer}
 
 -- the flat player after a call with this verdict that would make it p
 abbrev pub flatAfter : Verdict → Player → FlatPlayer → FlatPlayer

@@ -1,6 +1,8 @@
 -- A player and answers as hosts in C and Rust hold them, without enums. Definitions only.
 use Prim.Native.Nat.{ℕ}
+use mathlib.Core.Path.{_≡_}
 use mathlib.Core.Bool.{cond}
+use mathlib.Core.Logic.{_⊎_}
 use lib.Dec.{eqb}
 use lib.Ieee.{Float}
 use Rattle.model.specs.declared.Player.{Player}
@@ -10,9 +12,9 @@ use Rattle.model.specs.Numbers.{0f}
 use Rattle.model.specs.Answers.{Verdict, accepted, refused}
 use Rattle.model.specs.Text as Text
 use Rattle.model.specs.Text.{TextVerdict}
-use Rattle.capi.specs.declared.FlatPlayer.{FlatPlayer}
-use Rattle.capi.specs.declared.FlatAnswer.{FlatAnswer}
-use Rattle.capi.specs.declared.FlatTextAnswer.{FlatTextAnswer}
+use Rattle.flat.specs.declared.FlatPlayer.{FlatPlayer}
+use Rattle.flat.specs.declared.FlatAnswer.{FlatAnswer}
+use Rattle.flat.specs.declared.FlatTextAnswer.{FlatTextAnswer}
 
 -- ---- the player
 
@@ -51,6 +53,13 @@ packedAs p (Running start target duration) = packedWith p 1 start target duratio
 -- the flat player that calls store
 unfoldable pub packed : Player → FlatPlayer
 packed p = packedAs p (p .transition)
+
+-- the transition's fields of a flat player that a call stored: zeros, or a 1 that is followed by anything
+abbrev pub AsPacked : ℕ → Float → ℕ → Float → Type 0
+AsPacked running start target duration = ((running ≡ 0) × (start ≡ 0f) × (target ≡ 0) × (duration ≡ 0f)) ⊎ (running ≡ 1)
+
+abbrev pub AsStored : FlatPlayer → Type 0
+AsStored f = AsPacked (f .running) (f .start) (f .target) (f .duration)
 
 -- ---- answers: number 0 is the acceptance
 

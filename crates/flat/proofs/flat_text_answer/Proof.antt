@@ -1,0 +1,17 @@
+-- `flat::flat_text_answer` meets its contract, by the case of the answer. Assumes nothing.
+use borrow.Author.Needs.{needs}
+use Rattle.model.specs.Text.{textValues}
+use Rattle.flat.specs.Flat.{flatTextAnswer}
+use Rattle.flat.proofs.flat_text_answer.Statement.{statement}
+use Rattle.flat.proofs.flat_text_answer.Tie as tie
+
+returns : tie.Need-returns
+unfolding textValues flatTextAnswer
+returns c = rw (c .before .answer .given .1)
+
+returns-2 : tie.Need-returns-2
+unfolding textValues flatTextAnswer
+returns-2 c = rw (c .before .answer2 .given .1)
+
+pub flat-text-answer-spec : {M : Type 1} → statement M
+flat-text-answer-spec = tie.close (tie.spec (search needs) (search needs) returns returns-2)
