@@ -12,6 +12,7 @@ use lib.ListN.{length, getD, drop, length-drop, drop-of-length-le}
 use lib.Seq.{drop-cons}
 use borrow.Author.Tests.{eq-eqb, ne-eqb}
 use Rattle.model.specs.Run as Run
+use Rattle.model.specs.Run.{kindOf}
 use Rattle.model.specs.Text.{lineFeed}
 use Rattle.calls.specs.declared.Call.{Call}
 use Rattle.calls.specs.declared.Call.the-variants.{Malformed, Update, Speed, Set, Frame}

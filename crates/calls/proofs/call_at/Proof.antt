@@ -1,8 +1,9 @@
 -- `calls::call_at` meets its contract. Assumes nothing.
 use borrow.Author.Needs.{needs}
+use Prim.Native.Nat.{ℕ}
 use native.Mathlib.Omega.{arith}
 use mathlib.Core.Path.{sym, _∙_}
-use mathlib.Core.List.{[], _∷_}
+use mathlib.Core.List.{List, [], _∷_}
 use Rattle.fields.proofs.Bytes.{positive-at}
 use Rattle.calls.specs.CallText.{updateName, speedName, setName, frameName, pageName}
 use Rattle.calls.proofs.LineLaws.{malformed-read, Misses, none-tested, missed, update-named, speed-named, set-named, frame-named, page-named, unnamed}
@@ -10,20 +11,22 @@ use Rattle.calls.proofs.call_at.Statement.{statement}
 use Rattle.calls.proofs.call_at.Tie as tie
 
 -- the names that were tested
+abbrev Past : tie.Start → List (List ℕ) → Type 0
+Past s = Misses (s .args .text .now) (s .args .at)
 
-past-update : (c : tie.Else1) → let a = c .before .before .before .before .args in Misses (a .text .now) (a .at) (updateName ∷ [])
+past-update : (c : tie.Else1) → Past (c .before .before .before .before) (updateName ∷ [])
 past-update c = missed (sym (c .before .begins .ensures .0) ∙ c .if1 .left) none-tested
 
-past-speed : (c : tie.Else2) → let a = c .before .before .before .before .before .before .before .args in Misses (a .text .now) (a .at) (speedName ∷ updateName ∷ [])
+past-speed : (c : tie.Else2) → Past (c .before .before .before .before .before .before .before) (speedName ∷ updateName ∷ [])
 past-speed c = missed (sym (c .before .begins2 .ensures .0) ∙ c .if2 .left) (past-update (c .before .before .before))
 
-past-set : (c : tie.Else3) → let a = c .before .before .before .before .before .before .before .before .before .before .args in Misses (a .text .now) (a .at) (setName ∷ speedName ∷ updateName ∷ [])
+past-set : (c : tie.Else3) → Past (c .before .before .before .before .before .before .before .before .before .before) (setName ∷ speedName ∷ updateName ∷ [])
 past-set c = missed (sym (c .before .begins3 .ensures .0) ∙ c .if3 .left) (past-speed (c .before .before .before))
 
-past-frame : (c : tie.Else4) → let a = c .before .before .before .before .before .before .before .before .before .before .before .before .before .args in Misses (a .text .now) (a .at) (frameName ∷ setName ∷ speedName ∷ updateName ∷ [])
+past-frame : (c : tie.Else4) → Past (c .before .before .before .before .before .before .before .before .before .before .before .before .before) (frameName ∷ setName ∷ speedName ∷ updateName ∷ [])
 past-frame c = missed (sym (c .before .begins4 .ensures .0) ∙ c .if4 .left) (past-set (c .before .before .before))
 
-past-page : (c : tie.Else5) → let a = c .before .before .before .before .before .before .before .before .before .before .before .before .before .before .before .before .args in Misses (a .text .now) (a .at) (pageName ∷ frameName ∷ setName ∷ speedName ∷ updateName ∷ [])
+past-page : (c : tie.Else5) → Past (c .before .before .before .before .before .before .before .before .before .before .before .before .before .before .before .before) (pageName ∷ frameName ∷ setName ∷ speedName ∷ updateName ∷ [])
 past-page c = missed (sym (c .before .begins5 .ensures .0) ∙ c .if5 .left) (past-frame (c .before .before .before))
 
 -- a name that stands in the text ends inside it

@@ -38,7 +38,7 @@ both c =
     )
 
 mul-t6 : tie.Need-mul-t6
-mul-t6 c = omega (arith, both c .0 .fits)
+mul-t6 c = omega (arith, both c .0 .fits, both c .1 .fits)
 
 add-t8 : tie.Need-add-t8
 add-t8 c = omega (arith, both c .0 .fits, both c .1 .fits)
