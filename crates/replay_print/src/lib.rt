@@ -18,6 +18,13 @@ fn write_front(bytes: &[u8], size: usize) -> bool
     io::write_all(STDOUT_FILENO, &bytes[..size])
 }
 
+// The same for an array that a callee filled: its length is a parameter's type here, where a caller would have to show that it is kept.
+fn write_array_front(bytes: &[u8; 16384], size: usize) -> bool
+    requires { ⌜ size ≤ length (now bytes) ⌝ }
+{
+    write_front(bytes, size)
+}
+
 fn print_refusal(number: usize, place: usize) -> bool {
     let mut out = [0u8; 64];
     let size = put_refusal(&mut out, 0, number, place);
@@ -27,13 +34,13 @@ fn print_refusal(number: usize, place: usize) -> bool {
 fn print_malformed(line: usize) -> bool {
     let mut out = [0u8; 16384];
     let size = put_malformed(line, &mut out);
-    write_front(&out, size)
+    write_array_front(&out, size)
 }
 
 fn print_rest(player: Player) -> bool {
     let mut out = [0u8; 16384];
     let size = finish(player, &mut out);
-    write_front(&out, size)
+    write_array_front(&out, size)
 }
 
 // The calls, as many at a time as the buffer holds reports of.
@@ -61,7 +68,7 @@ fn print_list(plan: &[u16], numbers: &[f32], calls: &[u8]) -> bool {
     }
     let mut out = [0u8; 16384];
     let begun = begin(plan, numbers, &mut out);
-    if !write_front(&out, begun.length) {
+    if !write_array_front(&out, begun.length) {
         return false;
     }
     let player = begun.player;
