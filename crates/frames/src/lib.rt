@@ -8,6 +8,7 @@ use layout::word;
 use model::Answer;
 use model::Transition;
 use output_pose::show;
+use output_pose::show_joint;
 use plan::Checked;
 use plan::check;
 use skeleton::make_page_matrices;
@@ -18,6 +19,7 @@ ghost use mathlib.Core.Path.{_≡_};
 ghost use mathlib.Core.Bool.{true};
 ghost use Prim.Native.Nat.{_<_, _≤_};
 ghost use lib.ListN.{length};
+ghost use Rattle.model.specs.declared.Transition.the-variants as Transition;
 ghost use Rattle.model.specs.Answers.{values, refused};
 ghost use Rattle.model.specs.Plan.{jointCount, stateCount, outputAt};
 ghost use Rattle.model.specs.Controller.{isTargetBelow};
@@ -72,6 +74,19 @@ fn layout_of(plan: &[u16], layout: Layout, here: StateLayout, state: usize) -> S
     state_layout(plan, layout, state)
 }
 
+// One joint, one clip, and no transition. It is asked here, before the layouts are copied for `show`, which costs more than the pose.
+fn is_single(joints: usize, nodes: usize, transition: Transition) -> bool
+    ensures { λ r. ⌜ (r ≡ true → (joints ≡ 1) × (nodes ≡ 1) × (transition ≡ Transition.Idle)) ⌝ }
+{
+    let Transition::Idle = transition else {
+        return false;
+    };
+    if joints != 1 {
+        return false;
+    }
+    nodes == 1
+}
+
 // Steps 1 to 3 of a frame that nothing refuses.
 fn play(
     plan: &[u16],
@@ -95,6 +110,10 @@ fn play(
     let next = stepped.transition;
     let here = layout_of(plan, layout, before, stepped.state);
     let time = narrow(clock + ext * speed);
+    if is_single(layout.joints, here.nodes, next) {
+        show_joint(plan, numbers, layout, here, instances, time, output);
+        return stepped;
+    }
     show(
         plan,
         numbers,

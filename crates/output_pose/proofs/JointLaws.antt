@@ -8,6 +8,8 @@ use mathlib.Core.List.{List}
 use lib.Ieee.{Float}
 use borrow.Author.Tests.{eqb-true}
 use Rattle.model.specs.declared.Pose.{Pose}
+use Rattle.model.specs.declared.Transition.{Transition}
+use Rattle.model.specs.declared.Transition.the-variants.{Idle}
 use Rattle.model.specs.Numbers.{_*₃₂_}
 use Rattle.model.specs.Rotations.{identityMatrix, floats, product}
 use Rattle.model.specs.Pose.{lerp, toMatrix}
@@ -30,7 +32,8 @@ use Rattle.blend_tree.proofs.SynchronizeLaws.{other-untouched}
 use Rattle.blend_tree.proofs.PoseLaws.{Positioned, clip-pose, of-clip, root-pose}
 use Rattle.skeleton.specs.Buffer.{stored, jointsWritten}
 use Rattle.skeleton.proofs.Laws.{root-written}
-use Rattle.output_pose.specs.Shown.{JointShown, StateShown}
+use Rattle.output_pose.specs.Shown.{JointShown, Shown}
+use Rattle.output_pose.proofs.Laws.{shown-idle}
 
 module _ {plan : List ℕ} {numbers : List Float} {layout : Layout} {here : StateLayout} (ok : Playable plan numbers layout) (inside : InPlan plan here) (one : here .nodes ≡ 1) where
   counted : nodeCount plan (here .state) ≡ 1
@@ -58,9 +61,11 @@ module _ {plan : List ℕ} {numbers : List Float} {layout : Layout} {here : Stat
   unfolding synchronize synchronizeNodes synchronizeNode
   alone parameters time instances = rw (counted, untouched)
 
-  pub shown-alone : (parameters : List Float) (time : Float) (instances old new : List Float) → JointShown plan numbers time (here .state) instances old new
-      → StateShown plan numbers time (here .state) parameters instances instances old new
-  shown-alone parameters time instances old new s = record { instances = alone parameters time instances; output = s .output parameters }
+  -- so what is shown of it is what an idle player shows, whatever its parameters
+  pub shown-alone : (parameters : List Float) (time instant : Float) (t : Transition) (instances old new : List Float) → t ≡ Idle → JointShown plan numbers time (here .state) instances old new
+      → Shown plan numbers time instant (here .state) t parameters instances instances old new
+  shown-alone parameters time instant t instances old new idle s =
+      shown-idle plan numbers time instant (here .state) parameters instances old t instances new idle (record { instances = alone parameters time instances; output = s .output parameters })
 
   -- the state's pose is its clip's
   pub only-pose : {words : Node} → words ≡ nodeOf plan (here .state) 0 → (time local : Float) (instances : List Float) → local ≡ localTime (instanceAt instances (here .«clip_node»)) time

@@ -190,8 +190,8 @@ fn show_transition(
     );
 }
 
-// A figure of one joint in a state of one clip, which needs no block.
-fn show_joint(
+// A figure of one joint in a state of one clip, which needs no block, and is not synchronised.
+pub fn show_joint(
     plan: &[u16],
     numbers: &[f32],
     layout: Layout,
@@ -215,7 +215,7 @@ fn show_joint(
     calculate_root_pose(lerp(low, high, position.factor), output);
 }
 
-// The state of an idle player. One clip by itself is not synchronised.
+// The state of an idle player.
 fn show_idle(
     plan: &[u16],
     numbers: &[f32],
@@ -229,12 +229,6 @@ fn show_idle(
     requires { ⌜ Playable (now plan) (now numbers) layout × InPlan (now plan) here × (outputAt (jointCount (now plan)) ≤ length (now output)) ⌝ }
     ensures { λ _. ⌜ StateShown (now (plan .entry)) (now (numbers .entry)) time (here .state) (now (parameters .entry)) (now (instances .entry)) (now (instances .exit)) (now (output .entry)) (now (output .exit)) ⌝ }
 {
-    if layout.joints == 1 {
-        if here.nodes == 1 {
-            show_joint(plan, numbers, layout, here, instances, time, output);
-            return;
-        }
-    }
     let mut slots = [0u8; 32];
     synchronize_state(
         plan,
