@@ -65,7 +65,8 @@ unfolding acceptedAs flatAnswer
 accepted-answer s Idle = refl
 accepted-answer s (Running start target duration) = refl
 
-module _ (kind : FrameKind) (plan : List ℕ) (numbers : List Float) (f : FlatPlayer) (ext : Float) (old new after : List Float) (t : Transition) (t-is : t ≡ transitionOf (f .running) (f .start) (f .target) (f .duration)) (parts : FrameParts)
+module _ (kind : FrameKind) (plan : List ℕ) (numbers : List Float) (f : FlatPlayer) (ext : Float) (old new after : List Float) (t : Transition)
+    (t-is : t ≡ transitionOf (f .running) (f .start) (f .target) (f .duration)) (parts : FrameParts)
     (done : Framed kind plan numbers (playerOf (f .clock) (f .speed) (f .state) t (f .parameters) (f .instances)) ext old new (outcomeOf (f .clock) (f .speed) parts (f .parameters) after)) where
   abbrev o : Outcome
   o = outcomeOf (f .clock) (f .speed) parts (f .parameters) after
@@ -87,7 +88,8 @@ module _ (kind : FrameKind) (plan : List ℕ) (numbers : List Float) (f : FlatPl
         output = on-unpacked .output;
       }
 
-  pub frame-refused : (n m : ℕ) → parts .answer ≡ answer.Refused n m → FlatFramed kind plan numbers f ext old new (record { clock = f .clock; speed = f .speed; state = f .state; running = f .running; start = f .start; target = f .target; duration = f .duration; parameters = f .parameters; instances = after }) (record { number = n; place = m })
+  pub frame-refused : (n m : ℕ) → parts .answer ≡ answer.Refused n m
+      → FlatFramed kind plan numbers f ext old new (flatOf (f .clock) (f .speed) (f .state) (f .running) (f .start) (f .target) (f .duration) (f .parameters) after) (record { number = n; place = m })
   unfolding values unlessRefused flatAnswer unpacked
   frame-refused n m e =
       let no : v ≡ refused n m 0 = sym (on-unpacked .answer) ∙ ap values e in
