@@ -33,7 +33,7 @@ pub fn position_in(samples: usize, position: f32) -> Position
     ensures { λ r. ⌜ r ≡ positionIn samples position ⌝ }
 {
     let floor = float::floor_index(position);
-    let ceiling = float::ceiling_index(position);
+    let ceiling = float::ceiling_from(position, floor);
     let n = samples as u64;
     let first = floor % n;
     let second = if ceiling == floor {

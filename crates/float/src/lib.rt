@@ -160,17 +160,24 @@ pub fn floor_index(x: f32) -> u64
     }
 }
 
-// Rust's `x.ceil() as usize`: the next index where x is above its floor, which can only be below 2 ^ 24: larger floats are whole.
-pub fn ceiling_index(x: f32) -> u64
+// Rust's `x.ceil() as usize`, for who has the floor's index n already: the next index where x is above its floor, which can only be below 2 ^ 24, since
+// larger floats are whole.
+pub fn ceiling_from(x: f32, n: u64) -> u64
+    requires { ⌜ n ≡ floorIndex x ⌝ }
     ensures { λ r. ⌜ r ≡ ceilingIndex x ⌝ }
 {
-    let n = floor_index(x);
     if x < 16777216.0 {
         if (n as f32) < x {
             return n + 1;
         }
     }
     n
+}
+
+pub fn ceiling_index(x: f32) -> u64
+    ensures { λ r. ⌜ r ≡ ceilingIndex x ⌝ }
+{
+    ceiling_from(x, floor_index(x))
 }
 
 // Rust's `n as f32`. The cast is supplied where it is exact, below 2 ^ 24. From there on the k lowest digits are rounded away, so that 24 are left;

@@ -19,7 +19,7 @@ unfolding secondIndex
 second c =
     let n = c .before .before .before .args .samples in
     let floored = c .before .before .floor-index .ensures in
-    let raised = c .before .ceiling-index .ensures in
+    let raised = c .before .ceiling-from .ensures in
     ⊎-elim (λ w. w .1 ∙ ap (λ (i : ℕ). i % n) (sym (w .0 .taken) ∙ raised))
     (λ w. w .2 ∙ w .1 .ensures ∙ sym (suc-mod _ n) ∙ ap (λ (i : ℕ). i % n) (ap suc floored ∙ sym (ceiling-after _ (passes _ (c .before .before .before .good .1 .0 .1)) (λ e. w .0 .left (raised ∙ e ∙ sym floored)))))
     (c .if1 .came)
