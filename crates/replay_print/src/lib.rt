@@ -18,7 +18,7 @@ fn write_front(bytes: &[u8], size: usize) -> bool
     io::write_all(STDOUT_FILENO, &bytes[..size])
 }
 
-// The same for an array that a callee filled: its length is a parameter's type here, where a caller would have to show that it is kept.
+// The same for an array that was lent to a callee: of a parameter a proof knows the length by its type, of a lent array it does not.
 fn write_array_front(bytes: &[u8; 16384], size: usize) -> bool
     requires { ⌜ size ≤ length (now bytes) ⌝ }
 {
