@@ -5,14 +5,15 @@ use mathlib.Core.Path.{_≡_, refl, sym, ap, _∙_}
 use mathlib.Core.Bool.{Bool, true, false, cond}
 use mathlib.Core.List.{List, [], _∷_}
 use lib.Dec.{eqb}
-use lib.ListN.{length, getD, drop, length-drop}
+use lib.ListN.{length, getD, drop, length-drop, drop-of-length-le}
+use lib.Ieee.{Float}
 use lib.Seq.{drop-drop}
 use borrow.Author.Tests.{eq-eqb, ne-eqb, eqb-true}
 use Rattle.model.specs.declared.FieldForm.{FieldForm}
 use Rattle.model.specs.declared.FieldForm.the-variants.{Decimal, Bits}
 use Rattle.model.specs.Run as Run
 use Rattle.model.specs.Text as Text
-use Rattle.model.specs.Text.{front, comma, lineFeed, run, numeral, maxWord, none, field, fieldIn, begins}
+use Rattle.model.specs.Text.{front, comma, lineFeed, run, numeral, maxWord, isField, none, field, fieldIn, begins}
 use Rattle.model.specs.Laws.Text.{field-law}
 use Rattle.fields.specs.declared.Field.{Field}
 use Rattle.fields.specs.declared.Field.the-variants.{Value, Nothing}
@@ -23,20 +24,19 @@ use Rattle.calls.specs.declared.Call.{Call}
 use Rattle.calls.specs.declared.Call.the-variants.{Malformed}
 use Rattle.calls.specs.declared.CallAt.{CallAt}
 use Rattle.calls.specs.CallText.{updateName, speedName, setName, frameName, pageName, CallLine, malformed, line}
-use Rattle.calls.specs.CallText.{behindComma, fieldThen, wideField, bitsField, decimalField, lineEnd, updateLine, speedLine, setLine, frameLine, callIn}
-use Rattle.calls.specs.Read.{lineOf, lineEndOf, lineRead}
+use Rattle.calls.specs.CallText.{behindComma, fieldThen, wideField, bitsField, decimalField, lineEnd, timeLine, setLine, frameLine, callIn}
+use Rattle.calls.specs.Read.{timedCall, timeOf, behind, lineOf, lineEndOf, lineRead}
 
 -- ---- fields
 
 module _ (text : List ℕ) (at : ℕ) {b : ℕ} (is : b ≡ getD text at 0) where
-  module _ (read : List ℕ → Text.Field) where
-    pub no-comma : (b ≡ comma → ⊥) → none ≡ behindComma read (drop at text)
-    unfolding behindComma
-    no-comma h = rw (front-at text at is, ne-eqb b comma h)
+  pub no-comma : (b ≡ comma → ⊥) → drop (length text) text ≡ behind (drop at text)
+  unfolding behind
+  no-comma h = rw (front-at text at is, ne-eqb b comma h) (drop-of-length-le text {i = length text} (omega arith))
 
-    pub behind-comma : b ≡ comma → behindComma read (drop at text) ≡ read (drop (at + 1) text)
-    unfolding behindComma
-    behind-comma h = rw (front-at text at is, eq-eqb b comma h, drop-drop 1 at text)
+  pub behind-comma : b ≡ comma → drop (at + 1) text ≡ behind (drop at text)
+  unfolding behind
+  behind-comma h = rw (front-at text at is, eq-eqb b comma h, drop-drop 1 at text)
 
   pub no-line-feed : (call : Call) → (b ≡ lineFeed → ⊥) → malformed ≡ lineEndOf call (drop at text)
   unfolding lineEndOf
@@ -46,7 +46,38 @@ module _ (text : List ℕ) (at : ℕ) {b : ℕ} (is : b ≡ getD text at 0) wher
   unfolding lineEndOf
   line-feed call h = rw (front-at text at is, eq-eqb b lineFeed h, drop-drop 1 at text)
 
+-- a field behind a comma, where none is read from nothing
+comma-read : (read : List ℕ → Text.Field) → read [] ≡ none → (text : List ℕ) (at place : ℕ) → drop place text ≡ behind (drop at text)
+    → read (drop place text) ≡ behindComma read (drop at text)
+unfolding behind behindComma
+comma-read read nothing text at place e = ap read e ∙ go (eqb (front (drop at text)) comma)
+  where
+    go : (t : Bool) → read (cond t (drop 1 (drop at text)) []) ≡ cond t (read (drop 1 (drop at text))) none
+    go true = refl
+    go false = nothing
+
+no-wide-bits : wideBitsIn [] ≡ none
+unfolding wideBitsIn run
+no-wide-bits = refl
+
+pub wide-read : (text : List ℕ) (at place : ℕ) → drop place text ≡ behind (drop at text) → wideBitsIn (drop place text) ≡ wideField (drop at text)
+wide-read = comma-read wideBitsIn no-wide-bits
+
+nothing-read : (form : FieldForm) → fieldIn form [] ≡ none
+unfolding fieldIn isField run
+nothing-read (Decimal limit) = refl
+nothing-read Bits = refl
+
+pub field-read : (form : FieldForm) (text : List ℕ) (at place : ℕ) → drop place text ≡ behind (drop at text) → fieldIn form (drop place text) ≡ behindComma (fieldIn form) (drop at text)
+field-read form = comma-read (fieldIn form) (nothing-read form)
+
 -- ---- lines
+
+-- the program's call for a time is the text's
+pub timed-is : (isSpeed : Bool) (x : Float) (rest : List ℕ) → lineOf (timedCall isSpeed x) rest ≡ line (timeOf isSpeed x) rest
+unfolding lineOf
+timed-is true x rest = refl
+timed-is false x rest = refl
 
 pub malformed-read : (text : List ℕ) (r : CallAt) → r .call ≡ Malformed → lineRead text r ≡ malformed
 unfolding lineRead lineOf
@@ -74,12 +105,12 @@ pub data Misses (text : List ℕ) (at : ℕ) : List (List ℕ) → Type 0 where
   none-tested : Misses text at []
   missed : {name : List ℕ} {names : List (List ℕ)} → begins name (drop at text) ≡ false → Misses text at names → Misses text at (name ∷ names)
 
-pub update-named : (text : List ℕ) (at : ℕ) → begins updateName (drop at text) ≡ true → updateLine (drop (at + 6) text) ≡ callIn (drop at text)
+pub update-named : (text : List ℕ) (at : ℕ) → begins updateName (drop at text) ≡ true → timeLine Run.Update (drop (at + 6) text) ≡ callIn (drop at text)
 unfolding callIn
 update-named text at e = rw (e, drop-drop)
 
 module _ {text : List ℕ} {at : ℕ} where
-  pub speed-named : Misses text at (updateName ∷ []) → begins speedName (drop at text) ≡ true → speedLine (drop (at + 5) text) ≡ callIn (drop at text)
+  pub speed-named : Misses text at (updateName ∷ []) → begins speedName (drop at text) ≡ true → timeLine Run.Speed (drop (at + 5) text) ≡ callIn (drop at text)
   unfolding callIn
   speed-named (missed u none-tested) e = rw (u, e, drop-drop)
 
@@ -187,10 +218,10 @@ unfolding frameLine
 frame-spends kind = wide-then _ (λ d. decimal-then _ (λ n. end-spends _))
 
 pub call-spends : Spends callIn
-unfolding callIn updateLine speedLine setLine
+unfolding callIn timeLine setLine
 call-spends =
-    name-spends updateName updateLine _ (wide-then _ (λ d. end-spends _))
-    (name-spends speedName speedLine _ (wide-then _ (λ d. end-spends _))
+    name-spends updateName (timeLine Run.Update) _ (wide-then _ (λ d. end-spends _))
+    (name-spends speedName (timeLine Run.Speed) _ (wide-then _ (λ d. end-spends _))
     (name-spends setName setLine _ (decimal-then _ (λ n. bits-then _ (λ v. end-spends _)))
     (name-spends frameName (frameLine Run.ordinary) _ (frame-spends Run.ordinary)
     (name-spends pageName (frameLine Run.page) _ (frame-spends Run.page)

@@ -5,7 +5,7 @@ use mathlib.Core.Bool.{cond}
 use mathlib.Core.List.{List, [], _∷_}
 use lib.ListN.{length, drop}
 use lib.Dec.{eqb}
-use lib.Ieee.{binary32, binary64, ofBits}
+use lib.Ieee.{Float, binary32, binary64, ofBits}
 use Rattle.model.specs.declared.FieldForm.the-variants.{Decimal, Bits}
 use Rattle.model.specs.Text.{front, lineFeed, comma, maxWord, Field, none, field, fieldIn, begins}
 use Rattle.model.specs.Run.{Call, Update, Speed, Set, Frame, FrameKind, ordinary, page}
@@ -56,11 +56,8 @@ unfoldable pub lineEnd : Call → List ℕ → CallLine
 lineEnd call s = cond (eqb (front s) lineFeed) (line call (drop 1 s)) malformed
 
 -- behind the names of lines
-unfoldable pub updateLine : List ℕ → CallLine
-updateLine s = fieldThen (wideField s) (λ d rest. lineEnd (Update (ofBits binary64 d)) rest)
-
-unfoldable pub speedLine : List ℕ → CallLine
-speedLine s = fieldThen (wideField s) (λ d rest. lineEnd (Speed (ofBits binary64 d)) rest)
+unfoldable pub timeLine : (Float → Call) → List ℕ → CallLine
+timeLine make s = fieldThen (wideField s) (λ d rest. lineEnd (make (ofBits binary64 d)) rest)
 
 unfoldable pub setLine : List ℕ → CallLine
 setLine s = fieldThen (decimalField s) (λ n rest. fieldThen (bitsField rest) (λ v. lineEnd (Set n (ofBits binary32 v))))
@@ -70,8 +67,8 @@ frameLine kind s = fieldThen (wideField s) (λ d rest. fieldThen (decimalField r
 
 unfoldable pub callIn : List ℕ → CallLine
 callIn s =
-    cond (begins updateName s) (updateLine (drop (length updateName) s))
-    (cond (begins speedName s) (speedLine (drop (length speedName) s))
+    cond (begins updateName s) (timeLine Update (drop (length updateName) s))
+    (cond (begins speedName s) (timeLine Speed (drop (length speedName) s))
     (cond (begins setName s) (setLine (drop (length setName) s))
     (cond (begins frameName s) (frameLine ordinary (drop (length frameName) s))
     (cond (begins pageName s) (frameLine page (drop (length pageName) s))

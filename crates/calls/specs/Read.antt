@@ -1,10 +1,11 @@
 -- What the reader's struct and enum say of a text. Definitions only.
 use Prim.Native.Nat.{ℕ}
 use mathlib.Core.Bool.{Bool, true, false, cond}
-use mathlib.Core.List.{List}
+use mathlib.Core.List.{List, []}
 use lib.ListN.{drop}
 use lib.Dec.{eqb}
-use Rattle.model.specs.Text.{front, lineFeed}
+use lib.Ieee.{Float}
+use Rattle.model.specs.Text.{front, comma, lineFeed}
 use Rattle.model.specs.Run as Run
 use Rattle.model.specs.Run.{kindOf}
 use Rattle.calls.specs.declared.Call.{Call}
@@ -18,6 +19,17 @@ lineOf (Update delta) rest = line (Run.Update delta) rest
 lineOf (Speed value) rest = line (Run.Speed value) rest
 lineOf (Set parameter value) rest = line (Run.Set parameter value) rest
 lineOf (Frame isPage ext length) rest = line (Run.Frame (kindOf isPage) ext length) rest
+
+-- update or speed, by a flag: the program's call and the text's
+abbrev pub timedCall : Bool → Float → Call
+timedCall isSpeed x = cond isSpeed (Speed x) (Update x)
+
+abbrev pub timeOf : Bool → Float → Run.Call
+timeOf isSpeed x = cond isSpeed (Run.Speed x) (Run.Update x)
+
+-- the text behind a comma; nothing where there is none
+unfoldable pub behind : List ℕ → List ℕ
+behind s = cond (eqb (front s) comma) (drop 1 s) []
 
 -- `call`, if the line ends here
 unfoldable pub lineEndOf : Call → List ℕ → CallLine

@@ -12,10 +12,12 @@ ghost use Prim.Native.Nat.{ℕ, _-_, _≤_, _<_};
 ghost use lib.ListN.{length, drop, getD};
 ghost use Rattle.model.specs.Text.{begins};
 ghost use Rattle.model.specs.Run.{kindOf};
-ghost use Rattle.fields.specs.Found.{found};
-ghost use Rattle.calls.specs.CallText.{wideField, bitsField, decimalField, updateLine, speedLine, setLine, frameLine, callIn, readCalls, lineCount, callList};
-ghost use Rattle.calls.specs.Read.{isMalformed, lineEndOf, lineRead, firstMalformed};
+ghost use Rattle.calls.specs.CallText.{timeLine, setLine, frameLine, callIn, readCalls, lineCount, callList};
+ghost use Rattle.calls.specs.Read.{timedCall, timeOf, behind, isMalformed, lineEndOf, lineRead, firstMalformed};
 ghost use Rattle.calls.specs.declared.Call.the-variants as Call;
+
+// The largest decimal.
+const MOST_WORD: u16 = 65535;
 
 // What a line asks for. A frame has its ext and the output's length.
 pub enum Call {
@@ -64,33 +66,14 @@ fn begins(text: &[u8], at: usize, name: &[u8]) -> bool
     true
 }
 
-// ---- fields, each behind a comma
-
-fn wide_field(text: &[u8], at: usize) -> Field
-    ensures { λ r. ⌜ found (now (text .entry)) r ≡ wideField (drop at (now (text .entry))) ⌝ }
+// Where a field begins, behind the comma at `at`. Without a comma it is the end of the text, where no field is.
+fn behind_comma(text: &[u8], at: usize) -> usize
+    ensures { λ r. ⌜ drop r (now (text .entry)) ≡ behind (drop at (now (text .entry))) ⌝ }
 {
-    if byte(text, at) != b',' {
-        return Field::Nothing;
+    if byte(text, at) == b',' {
+        return at + 1;
     }
-    read_wide_bits(text, at + 1)
-}
-
-fn bits_field(text: &[u8], at: usize) -> Field
-    ensures { λ r. ⌜ found (now (text .entry)) r ≡ bitsField (drop at (now (text .entry))) ⌝ }
-{
-    if byte(text, at) != b',' {
-        return Field::Nothing;
-    }
-    read_field(text, at + 1, FieldForm::Bits)
-}
-
-fn decimal_field(text: &[u8], at: usize) -> Field
-    ensures { λ r. ⌜ found (now (text .entry)) r ≡ decimalField (drop at (now (text .entry))) ⌝ }
-{
-    if byte(text, at) != b',' {
-        return Field::Nothing;
-    }
-    read_field(text, at + 1, FieldForm::Decimal { limit: 65535 })
+    text.len()
 }
 
 // ---- lines, from behind their names on
@@ -136,40 +119,38 @@ fn line_end(text: &[u8], at: usize, call: Call) -> CallAt
     }
 }
 
-fn update_line(text: &[u8], at: usize) -> CallAt
-    ensures { λ r. ⌜ lineRead (now (text .entry)) r ≡ updateLine (drop at (now (text .entry))) ⌝ }
+fn timed(is_speed: bool, x: f64) -> Call
+    ensures { λ r. ⌜ r ≡ timedCall «is_speed» x ⌝ }
 {
-    let delta = wide_field(text, at);
-    let Field::Value { value, end } = delta else {
-        return malformed();
-    };
-    let call = Call::Update {
-        delta: f64_from_bits(value as u64),
-    };
-    line_end(text, end, call)
+    if is_speed {
+        return Call::Speed { value: x };
+    }
+    Call::Update { delta: x }
 }
 
-fn speed_line(text: &[u8], at: usize) -> CallAt
-    ensures { λ r. ⌜ lineRead (now (text .entry)) r ≡ speedLine (drop at (now (text .entry))) ⌝ }
+// Update or speed.
+fn time_line(text: &[u8], at: usize, is_speed: bool) -> CallAt
+    ensures { λ r. ⌜ lineRead (now (text .entry)) r ≡ timeLine (timeOf «is_speed») (drop at (now (text .entry))) ⌝ }
 {
-    let speed = wide_field(text, at);
-    let Field::Value { value, end } = speed else {
+    let time = read_wide_bits(text, behind_comma(text, at));
+    let Field::Value { value, end } = time else {
         return malformed();
     };
-    let call = Call::Speed {
-        value: f64_from_bits(value as u64),
-    };
-    line_end(text, end, call)
+    line_end(text, end, timed(is_speed, f64_from_bits(value as u64)))
 }
 
 fn set_line(text: &[u8], at: usize) -> CallAt
     ensures { λ r. ⌜ lineRead (now (text .entry)) r ≡ setLine (drop at (now (text .entry))) ⌝ }
 {
-    let number = decimal_field(text, at);
+    let number = read_field(
+        text,
+        behind_comma(text, at),
+        FieldForm::Decimal { limit: MOST_WORD },
+    );
     let Field::Value { value, end } = number else {
         return malformed();
     };
-    let bits = bits_field(text, end);
+    let bits = read_field(text, behind_comma(text, end), FieldForm::Bits);
     let Field::Value {
         value: set,
         end: behind,
@@ -187,11 +168,15 @@ fn set_line(text: &[u8], at: usize) -> CallAt
 fn frame_line(text: &[u8], at: usize, is_page: bool) -> CallAt
     ensures { λ r. ⌜ lineRead (now (text .entry)) r ≡ frameLine (kindOf «is_page») (drop at (now (text .entry))) ⌝ }
 {
-    let ext = wide_field(text, at);
+    let ext = read_wide_bits(text, behind_comma(text, at));
     let Field::Value { value, end } = ext else {
         return malformed();
     };
-    let length = decimal_field(text, end);
+    let length = read_field(
+        text,
+        behind_comma(text, end),
+        FieldForm::Decimal { limit: MOST_WORD },
+    );
     let Field::Value {
         value: count,
         end: behind,
@@ -212,10 +197,10 @@ pub fn call_at(text: &[u8], at: usize) -> CallAt
     ensures { λ r. ⌜ lineRead (now (text .entry)) r ≡ callIn (drop at (now (text .entry))) ⌝ }
 {
     if begins(text, at, b"update") {
-        return update_line(text, at + 6);
+        return time_line(text, at + 6, false);
     }
     if begins(text, at, b"speed") {
-        return speed_line(text, at + 5);
+        return time_line(text, at + 5, true);
     }
     if begins(text, at, b"set") {
         return set_line(text, at + 3);

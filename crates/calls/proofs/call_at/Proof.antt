@@ -31,11 +31,11 @@ past-page c = missed (sym (c .before .begins5 .ensures .0) ∙ c .if5 .left) (pa
 
 -- a name that stands in the text ends inside it
 
-add-update-line : tie.Need-add-update-line
-add-update-line c = omega (arith, c .before .begins .ensures .1 (c .if1 .taken))
+add-time-line : tie.Need-add-time-line
+add-time-line c = omega (arith, c .before .begins .ensures .1 (c .if1 .taken))
 
-add-speed-line : tie.Need-add-speed-line
-add-speed-line c = omega (arith, c .before .begins2 .ensures .1 (c .if2 .taken))
+add-time-line-2 : tie.Need-add-time-line-2
+add-time-line-2 c = omega (arith, c .before .begins2 .ensures .1 (c .if2 .taken))
 
 add-set-line : tie.Need-add-set-line
 add-set-line c = omega (arith, c .before .begins3 .ensures .1 (c .if3 .taken))
@@ -50,12 +50,12 @@ returns : tie.Need-returns
 returns c =
     let b = c .before .before in
     let a = b .before .before .before .args in
-    c .update-line .ensures ∙ update-named (a .text .now) (a .at) (sym (b .begins .ensures .0) ∙ c .before .if1 .taken)
+    c .time-line .ensures ∙ update-named (a .text .now) (a .at) (sym (b .begins .ensures .0) ∙ c .before .if1 .taken)
 
 returns-2 : tie.Need-returns-2
 returns-2 c =
     let b = c .before .before in
-    c .speed-line .ensures ∙ speed-named (past-update (b .before .before)) (sym (b .begins2 .ensures .0) ∙ c .before .if2 .taken)
+    c .time-line2 .ensures ∙ speed-named (past-update (b .before .before)) (sym (b .begins2 .ensures .0) ∙ c .before .if2 .taken)
 
 returns-3 : tie.Need-returns-3
 returns-3 c =
@@ -81,12 +81,12 @@ call-at-spec =
     (tie.spec
     (search needs)
     (λ c κs. positive-at updateName tt)
-    add-update-line
+    add-time-line
     (search needs)
     returns
     (search needs)
     (λ c κs. positive-at speedName tt)
-    add-speed-line
+    add-time-line-2
     (search needs)
     returns-2
     (search needs)

@@ -1,35 +1,53 @@
 -- `calls::frame_line` meets its contract. Assumes nothing.
 use borrow.Author.Needs.{needs}
-use mathlib.Core.Path.{ap, _∙_}
+use mathlib.Core.Path.{_≡_, ap, _∙_}
+use lib.ListN.{drop}
+use Rattle.model.specs.declared.FieldForm.the-variants.{Decimal}
+use Rattle.model.specs.Text.{maxWord}
 use Rattle.model.specs.Run as Run
-use Rattle.calls.specs.CallText.{line, frameLine}
+use Rattle.fields.specs.Found.{found}
+use Rattle.calls.specs.CallText.{line, wideField, decimalField, frameLine}
 use Rattle.model.specs.Run.{kindOf}
 use Rattle.calls.specs.Read.{lineOf}
-use Rattle.calls.proofs.LineLaws.{malformed-read, without, with-value, ends}
+use Rattle.calls.proofs.LineLaws.{wide-read, field-read, malformed-read, without, with-value, ends}
 use Rattle.calls.proofs.frame_line.Statement.{statement}
 use Rattle.calls.proofs.frame_line.Tie as tie
 
+-- the field behind the name
+ext : (c : tie.After-read-wide-bits) → let a = c .before .before .before .args in found (a .text .now) (c .read-wide-bits .result) ≡ wideField (drop (a .at) (a .text .now))
+ext c =
+    let a = c .before .before .before .args in
+    c .read-wide-bits .ensures ∙ wide-read (a .text .now) (a .at) (c .before .behind-comma .result) (c .before .behind-comma .ensures)
+
+-- and the next
+count : (c : tie.After-read-field) → let x = c .before .before .before in let a = x .before .before .before .before .before .args in
+    found (a .text .now) (c .read-field .result) ≡ decimalField (drop (x .ext .given .0 .1 .0) (a .text .now))
+count c =
+    let x = c .before .before .before in
+    let a = x .before .before .before .before .before .args in
+    c .read-field .ensures ∙ field-read (Decimal maxWord) (a .text .now) (x .ext .given .0 .1 .0) (c .before .behind-comma2 .result) (c .before .behind-comma2 .ensures)
+
 returns : tie.Need-returns
 unfolding frameLine
-returns c = malformed-read _ _ (c .malformed .ensures) ∙ without _ (c .before .before .before .wide-field .ensures) _ (c .before .enum-told .given .1)
+returns c = malformed-read _ _ (c .malformed .ensures) ∙ without _ (ext (c .before .before .before)) _ (c .before .enum-told .given .1)
 
 returns-2 : tie.Need-returns-2
 unfolding frameLine
 returns-2 c =
     let l = c .before .before .before in
-    let x = l .before .before in
-    malformed-read _ _ (c .malformed2 .ensures) ∙ without _ (l .decimal-field .ensures) _ (c .before .enum-told2 .given .1)
-    ∙ with-value _ (x .before .before .wide-field .ensures) _ (x .ext .given .1)
+    let x = l .before .before .before in
+    malformed-read _ _ (c .malformed2 .ensures) ∙ without _ (count l) _ (c .before .enum-told2 .given .1)
+    ∙ with-value _ (ext (x .before .before)) _ (x .ext .given .1)
 
 returns-3 : tie.Need-returns-3
 unfolding frameLine lineOf
 returns-3 c =
     let n = c .before .before .before in
     let l = n .before .before in
-    let x = l .before .before in
-    let kind = kindOf (x .before .before .before .before .args .is-page) in
+    let x = l .before .before .before in
+    let kind = kindOf (x .before .before .before .before .before .args .is-page) in
     c .line-end .ensures ∙ ends _ (λ rest. ap (λ d. line (Run.Frame kind d (n .length .given .0 .0)) rest) (c .before .f64-from-bits .ensures)) _
-    ∙ with-value _ (l .decimal-field .ensures) _ (n .length .given .1) ∙ with-value _ (x .before .before .wide-field .ensures) _ (x .ext .given .1)
+    ∙ with-value _ (count l) _ (n .length .given .1) ∙ with-value _ (ext (x .before .before)) _ (x .ext .given .1)
 
 pub frame-line-spec : {M : Type 1} → statement M
 frame-line-spec =
@@ -39,7 +57,9 @@ frame-line-spec =
     (search needs)
     (search needs)
     (search needs)
+    (search needs)
     returns
+    (search needs)
     (search needs)
     (search needs)
     (search needs)

@@ -1,37 +1,57 @@
 -- `calls::set_line` meets its contract. Assumes nothing.
 use borrow.Author.Needs.{needs}
 use native.Mathlib.Omega.{arith}
-use mathlib.Core.Path.{ap, _∙_}
+use mathlib.Core.Path.{_≡_, ap, _∙_}
+use lib.ListN.{drop}
+use Rattle.model.specs.declared.FieldForm.the-variants.{Decimal, Bits}
+use Rattle.model.specs.Text.{maxWord}
 use Rattle.model.specs.Run as Run
-use Rattle.calls.specs.CallText.{line, setLine}
+use Rattle.fields.specs.Found.{found}
+use Rattle.calls.specs.CallText.{line, decimalField, bitsField, setLine}
 use Rattle.calls.specs.Read.{lineOf}
-use Rattle.calls.proofs.LineLaws.{malformed-read, without, with-value, ends, bits-fit}
+use Rattle.calls.proofs.LineLaws.{field-read, malformed-read, without, with-value, ends, bits-fit}
 use Rattle.calls.proofs.set_line.Statement.{statement}
 use Rattle.calls.proofs.set_line.Tie as tie
 
+-- the field behind the name
+number : (c : tie.After-read-field) → let a = c .before .before .before .args in found (a .text .now) (c .read-field .result) ≡ decimalField (drop (a .at) (a .text .now))
+number c =
+    let a = c .before .before .before .args in
+    c .read-field .ensures ∙ field-read (Decimal maxWord) (a .text .now) (a .at) (c .before .behind-comma .result) (c .before .behind-comma .ensures)
+
+-- and the next
+bits : (c : tie.After-read-field2) → let n = c .before .before .before in let a = n .before .before .before .before .before .args in
+    found (a .text .now) (c .read-field2 .result) ≡ bitsField (drop (n .number .given .0 .1 .0) (a .text .now))
+bits c =
+    let n = c .before .before .before in
+    let a = n .before .before .before .before .before .args in
+    c .read-field2 .ensures ∙ field-read Bits (a .text .now) (n .number .given .0 .1 .0) (c .before .behind-comma2 .result) (c .before .behind-comma2 .ensures)
+
 returns : tie.Need-returns
 unfolding setLine
-returns c = malformed-read _ _ (c .malformed .ensures) ∙ without _ (c .before .before .before .decimal-field .ensures) _ (c .before .enum-told .given .1)
+returns c = malformed-read _ _ (c .malformed .ensures) ∙ without _ (number (c .before .before .before)) _ (c .before .enum-told .given .1)
 
 returns-2 : tie.Need-returns-2
 unfolding setLine
 returns-2 c =
     let b = c .before .before .before in
-    let n = b .before .before in
-    malformed-read _ _ (c .malformed2 .ensures) ∙ without _ (b .bits-field .ensures) _ (c .before .enum-told2 .given .1)
-    ∙ with-value _ (n .before .before .decimal-field .ensures) _ (n .number .given .1)
+    let n = b .before .before .before in
+    malformed-read _ _ (c .malformed2 .ensures) ∙ without _ (bits b) _ (c .before .enum-told2 .given .1)
+    ∙ with-value _ (number (n .before .before)) _ (n .number .given .1)
 
 cast-f32-from-bits : tie.Need-cast-f32-from-bits
-cast-f32-from-bits c = omega (arith, bits-fit _ _ (c .before .before .before .bits-field .ensures) (c .before .bits .given .1))
+cast-f32-from-bits c =
+    let b = c .before .before .before in
+    omega (arith, bits-fit _ _ (bits b) (c .before .bits .given .1))
 
 returns-3 : tie.Need-returns-3
 unfolding setLine lineOf
 returns-3 c =
     let v = c .before .before .before in
     let b = v .before .before in
-    let n = b .before .before in
+    let n = b .before .before .before in
     c .line-end .ensures ∙ ends _ (λ rest. ap (λ x. line (Run.Set (n .number .given .0 .0) x) rest) (c .before .f32-from-bits .ensures)) _
-    ∙ with-value _ (b .bits-field .ensures) _ (v .bits .given .1) ∙ with-value _ (n .before .before .decimal-field .ensures) _ (n .number .given .1)
+    ∙ with-value _ (bits b) _ (v .bits .given .1) ∙ with-value _ (number (n .before .before)) _ (n .number .given .1)
 
 pub set-line-spec : {M : Type 1} → statement M
 set-line-spec =
@@ -41,7 +61,9 @@ set-line-spec =
     (search needs)
     (search needs)
     (search needs)
+    (search needs)
     returns
+    (search needs)
     (search needs)
     (search needs)
     (search needs)
