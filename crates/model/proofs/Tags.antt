@@ -15,7 +15,7 @@ use Rattle.model.proofs.Transition.{the-type as transition-type}
 pub never : (a : Answer) → tagOf answer-type a ≡ 1 → values a ≡ accepted → ⊥
 unfolding values
 never Accepted t e = omega (arith, t)
-never (Refused n p) t e = let z : _≡_ {A = ℕ} 0 1 = cc in omega arith
+never (Refused r) t e = let z : _≡_ {A = ℕ} 0 1 = cc in omega arith
 
 pub is-idle : (x : Transition) → tagOf transition-type x ≡ 0 → x ≡ Idle
 is-idle Idle t = refl

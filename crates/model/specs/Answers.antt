@@ -12,7 +12,7 @@ pub data Verdict : Type 0 where
 -- what the cases of the program's enum stand for in document 01. Start, set and frames carry nothing beside, so their rest is 0
 unfoldable pub values : Answer → Verdict
 values Accepted = accepted
-values (Refused number place) = refused number place 0
+values (Refused r) = refused (r .number) (r .place) 0
 
 -- ---- the first refusal
 

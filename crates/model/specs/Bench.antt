@@ -15,6 +15,7 @@ use Rattle.model.specs.declared.Pose.{Pose}
 use Rattle.model.specs.declared.Player.{Player}
 use Rattle.model.specs.declared.ClipInstance.{ClipInstance}
 use Rattle.model.specs.declared.Transition.the-variants.{Idle, Running}
+use Rattle.model.specs.declared.FrameKind.the-variants.{Ordinary}
 use Rattle.model.specs.Numbers.{_-₆₄_, 0f, 1f, half, threeHalves, narrow, firstGuess, invSqrt}
 use Rattle.model.specs.Rotations.{quaternion, entry, quaternionToMatrix}
 use Rattle.model.specs.Pose.{toMatrix}
@@ -23,7 +24,7 @@ use Rattle.model.specs.Clips.{firstIndex, secondIndex, factor, setPlayba
 use Rattle.model.specs.Tree.{targetLength, synchronizedRate}
 use Rattle.model.specs.Check.{check}
 use Rattle.model.specs.Controller.{withState, withTransition, nowAt, elapsed, isEnded, stepFrom, transitionFactor}
-use Rattle.model.specs.Run.{startVerdict, startPlayer, ordinary, Frame, chosenFloats}
+use Rattle.model.specs.Run.{startVerdict, startPlayer, Frame, chosenFloats}
 use Rattle.model.specs.Laws.Opened.{check-opened, floats-opened, all-opened}
 
 -- ---- floats by their bits
@@ -136,7 +137,7 @@ unfolding all-opened printedPlan printedNumbers
 printed-starts = refl
 
 pub printed-shows :
-    chosenFloats printedPlan printedNumbers (0 ∷ []) (startPlayer printedPlan printedNumbers) (Frame ordinary 0f 16)
+    chosenFloats printedPlan printedNumbers (0 ∷ []) (startPlayer printedPlan printedNumbers) (Frame Ordinary 0f 16)
     ≡ (1f ∷ 0f ∷ 0f ∷ 1f ∷ 0f ∷ 1f ∷ 0f ∷ 2f ∷ 0f ∷ 0f ∷ 1f ∷ 3f ∷ 0f ∷ 0f ∷ 0f ∷ 1f ∷ []) ∷ []
 unfolding all-opened printedPlan printedNumbers
 printed-shows = refl

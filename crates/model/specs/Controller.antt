@@ -7,6 +7,8 @@ use lib.Dec.{leb, ltb, eqb}
 use lib.Ieee.{Float, lt, le, eq, ne}
 use Rattle.model.specs.declared.Transition.{Transition}
 use Rattle.model.specs.declared.Transition.the-variants.{Idle, Running}
+use Rattle.model.specs.declared.Winner.{Winner}
+use Rattle.model.specs.declared.Winner.the-variants.{At, Nothing}
 use Rattle.model.specs.declared.Player.{Player}
 use Rattle.model.specs.declared.Pose.{Pose}
 use Rattle.model.specs.Numbers.{_+₆₄_, _-₆₄_, _*₆₄_, _/₆₄_, 0f, 1f, narrow}
@@ -108,14 +110,23 @@ module _ (plan : List ℕ) (numbers : List Float) where
   abbrev pub begun : Float → ℕ → ℕ → Transition
   begun now s t = Running now (targetState plan s t) (number plan numbers (Duration s t))
 
-  -- tries transition t and those after it, n in all, in the plan's order
-  unfoldable pub firstPassing : List Float → Float → ℕ → ℕ → ℕ → Transition
-  firstPassing parameters now s t zero = Idle
-  firstPassing parameters now s t (suc n) = cond (conditionHolds parameters s t) (begun now s t) (firstPassing parameters now s (suc t) n)
+  -- 'the first listed transition whose condition holds' among transition t and those after it, n in all
+  unfoldable pub firstPassing : List Float → ℕ → ℕ → ℕ → Winner
+  firstPassing parameters s t zero = Nothing
+  firstPassing parameters s t (suc n) = cond (conditionHolds parameters s t) (At t) (firstPassing parameters s (suc t) n)
+
+  -- among all of state s
+  unfoldable pub winner : List Float → ℕ → Winner
+  winner parameters s = firstPassing parameters s 0 (transitionCount plan s)
+
+  -- the transition that a winner starts
+  unfoldable pub startedBy : Float → ℕ → Winner → Transition
+  startedBy now s Nothing = Idle
+  startedBy now s (At t) = begun now s t
 
   -- step 1, by the transition that the player had before it: either looks for an end or for a start, never both
   unfoldable pub stepFrom : Float → Player → Transition → Player
-  stepFrom now p Idle = withTransition p (firstPassing (p .parameters) now (p .state) 0 (transitionCount plan (p .state)))
+  stepFrom now p Idle = withTransition p (startedBy now (p .state) (winner (p .parameters) (p .state)))
   stepFrom now p (Running start target duration) = cond (isEnded now start duration) (withTransition (withState p target) Idle) p
 
   -- of the player's own transition

@@ -36,6 +36,10 @@ maxTransitions = 16
 abbrev pub maxClipNodes : ℕ
 maxClipNodes = 64
 
+-- the parent of a 'root'
+abbrev pub root : ℕ
+root = 255
+
 -- ---- the words: header, parents, sample counts
 
 -- word i; 0 where there is none
@@ -81,7 +85,7 @@ parent plan j = word plan (parentAt j)
 
 -- 'root'
 unfoldable pub isRoot : List ℕ → ℕ → Bool
-isRoot plan j = eqb (parent plan j) 255
+isRoot plan j = eqb (parent plan j) root
 
 unfoldable pub sampleCountAt : List ℕ → ℕ → ℕ
 sampleCountAt plan c = parentAt (jointCount plan) + c
@@ -169,6 +173,10 @@ targetState plan s t = word plan (targetStateAt plan s t)
 unfoldable pub planEnd : List ℕ → ℕ
 planEnd plan = stateAt plan (stateCount plan)
 
+-- the words of a plan with the most joints, clips, states, nodes and transitions
+abbrev pub maxPlan : ℕ
+maxPlan = parentAt maxJoints + maxClips + maxStates * (2 + 4 * maxNodes + 3 * maxTransitions)
+
 -- ---- counts over states and clips
 
 -- f 0 + .. + f (n - 1)
@@ -227,3 +235,6 @@ samplePose plan numbers c n j =
 
 abbrev pub outputAt : ℕ → ℕ
 outputAt j = 16 * j
+
+abbrev pub maxOutput : ℕ
+maxOutput = outputAt maxJoints

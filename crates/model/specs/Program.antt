@@ -2,18 +2,21 @@
 use Prim.Native.Nat.{ℕ, zero, suc, _+_, _*_, _/_, _%_}
 use mathlib.Core.Bool.{cond}
 use mathlib.Core.List.{List, [], _∷_, _++_, map}
-use lib.ListN.{length, getD}
+use lib.ListN.{length, getD, drop}
 use lib.Dec.{ltb}
 use lib.Ieee.{Float, binary32, toBits}
 use Rattle.model.specs.declared.LineKind.{LineKind}
 use Rattle.model.specs.declared.LineKind.the-variants.{Figure, Joint, Clip, State, Node, Go, Pose}
+use Rattle.model.specs.declared.FieldForm.{FieldForm}
+use Rattle.model.specs.declared.FieldForm.the-variants.{Decimal, Bits}
+use Rattle.model.specs.declared.FrameKind.the-variants.{Ordinary}
 use Rattle.model.specs.Numbers.{0f}
 use Rattle.model.specs.Rotations.{identityMatrix, floats}
 use Rattle.model.specs.Answers.{Verdict, accepted, refused}
 use Rattle.model.specs.Plan.{jointCount, clipCount, stateCount, nodeCount, transitionCount, jointCountAt, parentAt, sampleCountAt, kindAt, conditionParameterAt, numberAt, Rate, Value, posesAt, samplesBefore}
 use Rattle.model.specs.Controller.{fresh}
-use Rattle.model.specs.Run.{startVerdict, ordinary, frameMatrices}
-use Rattle.model.specs.Text.{lineFeed, comma, name, Reading, bad, got, readFigure, floatsOf}
+use Rattle.model.specs.Run.{startVerdict, frameMatrices}
+use Rattle.model.specs.Text.{front, lineFeed, comma, name, forms, Reading, bad, got, readFigure, floatsOf}
 
 -- ---- numbers as text
 
@@ -65,7 +68,7 @@ joined (suc n) f = joined n f ++ f n
 -- one frame with ext 0 after a start
 unfoldable pub played : List ℕ → List Float → Verdict → List ℕ
 played plan numbers accepted =
-    let matrices = frameMatrices plan numbers (fresh plan numbers) 0f ordinary in
+    let matrices = frameMatrices plan numbers (fresh plan numbers) 0f Ordinary in
     joined (jointCount plan) (λ j. jointLine j (floats (getD matrices j identityMatrix)))
 played plan numbers (refused number place rest) = refusedLine number place
 
@@ -76,6 +79,10 @@ printedFrom (got ws bs rest n) = played ws (floatsOf bs) (startVerdict ws (float
 -- 'text of at most 65,536 bytes'
 abbrev pub maxText : ℕ
 maxText = 65536
+
+-- a number takes a comma and eight digits
+abbrev pub maxNumbers : ℕ
+maxNumbers = maxText / 9
 
 -- the whole program: 13, then the reader's, then the start's
 unfoldable pub printed : List ℕ → List ℕ
@@ -88,8 +95,14 @@ unfoldable pub part : List ℕ → ℕ → ℕ → List ℕ
 part xs a zero = []
 part xs a (suc n) = part xs a n ++ getD xs (a + n) 0 ∷ []
 
+-- fields of these forms, from a line's words and bits
+unfoldable pub fieldsText : List FieldForm → List ℕ → List ℕ → List ℕ
+fieldsText [] words bits = []
+fieldsText (Decimal limit ∷ later) words bits = decimalFields (front words ∷ []) ++ fieldsText later (drop 1 words) bits
+fieldsText (Bits ∷ later) words bits = bitsFields (front bits ∷ []) ++ fieldsText later words (drop 1 bits)
+
 unfoldable pub lineText : LineKind → List ℕ → List ℕ → List ℕ
-lineText kind words bits = name kind ++ decimalFields words ++ bitsFields bits ++ lineFeed ∷ []
+lineText kind words bits = name kind ++ fieldsText (forms kind) words bits ++ lineFeed ∷ []
 
 module _ (plan bits : List ℕ) where
   unfoldable pub stateText : ℕ → List ℕ

@@ -8,11 +8,12 @@ use lib.Ieee.{Float}
 use Rattle.model.specs.declared.Player.{Player}
 use Rattle.model.specs.declared.Outcome.{Outcome}
 use Rattle.model.specs.declared.TextAnswer.{TextAnswer}
+use Rattle.model.specs.declared.FrameKind.{FrameKind}
 use Rattle.model.specs.Answers.{values, unlessRefused}
 use Rattle.model.specs.Controller.{withSpeed, updated, parameterSet, setVerdict, frameVerdict}
 use Rattle.model.specs.Skeleton.{written}
 use Rattle.model.specs.Text.{readFigure, textValues, textVerdict, whenAccepted, overwritten, readWords, readFloats}
-use Rattle.model.specs.Run.{startVerdict, startPlayer, FrameKind, framePlayer, frameMatrices}
+use Rattle.model.specs.Run.{startVerdict, startPlayer, framePlayer, frameMatrices}
 
 pub record Started (plan : List ℕ) (numbers : List Float) (r : Outcome) : Type 0 where
   pub answer : values (r .answer) ≡ startVerdict plan numbers

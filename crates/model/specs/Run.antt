@@ -1,12 +1,13 @@
 -- Document 01, the calls, and the run by definition with what is compared of it. Definitions only.
 use Prim.Native.Nat.{ℕ}
-use mathlib.Core.Bool.{Bool, cond}
 use mathlib.Core.List.{List, [], _∷_, map}
 use lib.ListN.{getD, length}
 use lib.Ieee.{Float}
 use Rattle.model.specs.declared.Player.{Player}
 use Rattle.model.specs.declared.Transition.{Transition}
 use Rattle.model.specs.declared.Matrix4.{Matrix4}
+use Rattle.model.specs.declared.FrameKind.{FrameKind}
+use Rattle.model.specs.declared.FrameKind.the-variants.{Ordinary, Page}
 use Rattle.model.specs.Answers.{Verdict, accepted, unlessRefused}
 use Rattle.model.specs.Rotations.{identityMatrix, floats}
 use Rattle.model.specs.Plan.{jointCount}
@@ -24,17 +25,10 @@ startPlayer plan numbers = unlessRefused (startVerdict plan numbers) (fresh plan
 
 -- ---- a frame and a page frame: the player and the matrices of an accepted one
 
-pub data FrameKind : Type 0 where
-  ordinary page : FrameKind
-
--- by a flag
-abbrev pub kindOf : Bool → FrameKind
-kindOf isPage = cond isPage page ordinary
-
 -- what a kind of frame makes of the finished matrices
 unfoldable pub shown : FrameKind → List Matrix4 → List Matrix4
-shown ordinary ms = ms
-shown page ms = map pageMatrix ms
+shown Ordinary ms = ms
+shown Page ms = map pageMatrix ms
 
 module _ (plan : List ℕ) (numbers : List Float) (p : Player) (ext : Float) where
   -- step 1

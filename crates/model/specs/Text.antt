@@ -76,34 +76,22 @@ name Node = 110 ∷ 111 ∷ 100 ∷ 101 ∷ []
 name Go = 103 ∷ 111 ∷ []
 name Pose = 112 ∷ 111 ∷ 115 ∷ 101 ∷ []
 
--- a line's decimals, each with its upper limit, and then its float bits
-unfoldable pub limits : LineKind → List ℕ
-limits Figure = maxJoints ∷ maxClips ∷ maxParameters ∷ maxStates ∷ maxWord ∷ []
-limits Joint = maxWord ∷ []
-limits Clip = maxSamples ∷ []
-limits State = maxNodes ∷ maxTransitions ∷ []
-limits Node = maxWord ∷ maxWord ∷ maxWord ∷ maxWord ∷ []
-limits Go = maxWord ∷ maxWord ∷ maxWord ∷ []
-limits Pose = []
-
-unfoldable pub bitsCount : LineKind → ℕ
-bitsCount Figure = 0
-bitsCount Joint = 0
-bitsCount Clip = 1
-bitsCount State = 0
-bitsCount Node = 0
-bitsCount Go = 2
-bitsCount Pose = 8
-
-abbrev pub decimalCount : LineKind → ℕ
-decimalCount kind = length (limits kind)
+-- the forms of a line's fields, in their order; a count's decimal has the count's upper limit
+unfoldable pub forms : LineKind → List FieldForm
+forms Figure = Decimal maxJoints ∷ Decimal maxClips ∷ Decimal maxParameters ∷ Decimal maxStates ∷ Decimal maxWord ∷ []
+forms Joint = Decimal maxWord ∷ []
+forms Clip = Decimal maxSamples ∷ Bits ∷ []
+forms State = Decimal maxNodes ∷ Decimal maxTransitions ∷ []
+forms Node = Decimal maxWord ∷ Decimal maxWord ∷ Decimal maxWord ∷ Decimal maxWord ∷ []
+forms Go = Decimal maxWord ∷ Decimal maxWord ∷ Decimal maxWord ∷ Bits ∷ Bits ∷ []
+forms Pose = Bits ∷ Bits ∷ Bits ∷ Bits ∷ Bits ∷ Bits ∷ Bits ∷ Bits ∷ []
 
 abbrev pub fieldCount : LineKind → ℕ
-fieldCount kind = decimalCount kind + bitsCount kind
+fieldCount kind = length (forms kind)
 
 -- of field k
-unfoldable pub formOf : LineKind → ℕ → FieldForm
-formOf kind k = cond (ltb k (decimalCount kind)) (Decimal (getD (limits kind) k 0)) Bits
+abbrev pub formOf : LineKind → ℕ → FieldForm
+formOf kind k = getD (forms kind) k Bits
 
 pub data Line : Type 0 where
   malformed : Line
@@ -118,17 +106,28 @@ unfoldable pub fieldThen : Field → (List ℕ → Line) → Line
 fieldThen none more = malformed
 fieldThen (field v rest) more = withField v (more rest)
 
--- the last n fields of a line, and its end
-unfoldable pub lastFields : LineKind → ℕ → List ℕ → Line
-lastFields kind zero s = cond (eqb (front s) lineFeed) (line [] (drop 1 s)) malformed
-lastFields kind (suc n) s = cond (eqb (front s) comma) (fieldThen (fieldIn (formOf kind (fieldCount kind - suc n)) (drop 1 s)) (lastFields kind n)) malformed
+-- fields of these forms, and the line's end
+unfoldable pub fieldsIn : List FieldForm → List ℕ → Line
+fieldsIn [] s = cond (eqb (front s) lineFeed) (line [] (drop 1 s)) malformed
+fieldsIn (form ∷ later) s = cond (eqb (front s) comma) (fieldThen (fieldIn form (drop 1 s)) (fieldsIn later)) malformed
 
 unfoldable pub begins : List ℕ → List ℕ → Bool
 begins [] s = true
 begins (c ∷ cs) s = eqb (front s) c && begins cs (drop 1 s)
 
 unfoldable pub lineIn : LineKind → List ℕ → Line
-lineIn kind s = cond (begins (name kind) s) (lastFields kind (fieldCount kind) (drop (length (name kind)) s)) malformed
+lineIn kind s = cond (begins (name kind) s) (fieldsIn (forms kind) (drop (length (name kind)) s)) malformed
+
+-- of a line's values, those of its decimals, which are words of the plan, and those of its float bits
+unfoldable pub wordsIn : List FieldForm → List ℕ → List ℕ
+wordsIn [] vs = []
+wordsIn (Decimal limit ∷ later) vs = front vs ∷ wordsIn later (drop 1 vs)
+wordsIn (Bits ∷ later) vs = wordsIn later (drop 1 vs)
+
+unfoldable pub bitsIn : List FieldForm → List ℕ → List ℕ
+bitsIn [] vs = []
+bitsIn (Decimal limit ∷ later) vs = bitsIn later (drop 1 vs)
+bitsIn (Bits ∷ later) vs = front vs ∷ bitsIn later (drop 1 vs)
 
 -- ---- lines, one after another
 
@@ -153,7 +152,7 @@ times (suc n) read s = andThen (times n read s) (λ _. read)
 
 unfoldable pub fromLine : LineKind → Line → Reading
 fromLine kind malformed = bad 1
-fromLine kind (line vs rest) = got (take (decimalCount kind) vs) (drop (decimalCount kind) vs) rest 1
+fromLine kind (line vs rest) = got (wordsIn (forms kind) vs) (bitsIn (forms kind) vs) rest 1
 
 -- a line whose words and numbers follow each other in the figure too
 unfoldable pub readLine : LineKind → List ℕ → Reading
@@ -197,7 +196,7 @@ pub data TextVerdict : Type 0 where
 -- what the cases of the program's enum stand for
 unfoldable pub textValues : TextAnswer → TextVerdict
 textValues (Accepted words numbers) = accepted words numbers
-textValues (Refused number place) = refused number place 0
+textValues (Refused r) = refused (r .number) (r .place) 0
 
 -- 11, then 12
 unfoldable pub textVerdict : Reading → ℕ → ℕ → TextVerdict

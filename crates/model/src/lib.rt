@@ -1,4 +1,10 @@
 // The types of the interface. What they mean is defined in specs/, one file for each section of document 01.
+use crate::limits::MAX_INSTANCES;
+use crate::limits::MAX_PARAMETERS;
+ghost use mathlib.Core.Path.{_≡_};
+ghost use Rattle.model.specs.Answers.{values, refused};
+
+pub mod limits;
 
 pub struct Vector3 {
     pub x: f32,
@@ -52,20 +58,43 @@ pub enum Transition {
     },
 }
 
-// The instances are 64 times start, rate and offset in one array, so that they can be lent without a copy.
+// The instances are so many times start, rate and offset in one array, so that they can be lent without a copy.
 pub struct Player {
     pub clock: f64,
     pub speed: f64,
     pub state: usize,
     pub transition: Transition,
-    pub parameters: [f32; 32],
-    pub instances: [f32; 192],
+    pub parameters: [f32; MAX_PARAMETERS],
+    pub instances: [f32; MAX_INSTANCES],
 }
 
-// The acceptance, or a refusal with its number and place.
+// Which of a state's transitions wins, by its number.
+pub enum Winner {
+    At(usize),
+    Nothing,
+}
+
+// Of a frame: what is made of each joint's matrix.
+pub enum FrameKind {
+    Ordinary,
+    Page,
+}
+
+// A refusal's number and place, as document 01 lists them.
+pub struct Refusal {
+    pub number: usize,
+    pub place: usize,
+}
+
 pub enum Answer {
     Accepted,
-    Refused { number: usize, place: usize },
+    Refused(Refusal),
+}
+
+pub fn refused(number: usize, place: usize) -> Answer
+    ensures { λ r. ⌜ values r ≡ refused number place 0 ⌝ }
+{
+    Answer::Refused(Refusal { number, place })
 }
 
 // An answer with the player to go on with.
@@ -96,5 +125,5 @@ pub enum FieldForm {
 // The reader's answer: how many words and numbers it wrote, or a refusal.
 pub enum TextAnswer {
     Accepted { words: usize, numbers: usize },
-    Refused { number: usize, place: usize },
+    Refused(Refusal),
 }

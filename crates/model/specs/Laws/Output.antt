@@ -8,10 +8,12 @@ use lib.Seq.{drop-append-add}
 use lib.Ieee.{Float}
 use Rattle.model.specs.declared.Matrix4.{Matrix4}
 use Rattle.model.specs.declared.Player.{Player}
+use Rattle.model.specs.declared.FrameKind.{FrameKind}
+use Rattle.model.specs.declared.FrameKind.the-variants.{Ordinary, Page}
 use Rattle.model.specs.Rotations.{identityMatrix, floats}
 use Rattle.model.specs.Plan.{jointCount, outputAt}
 use Rattle.model.specs.Skeleton.{jointMatrices, pageMatrix, flat}
-use Rattle.model.specs.Run.{FrameKind, ordinary, page, shown, frameMatrices}
+use Rattle.model.specs.Run.{shown, frameMatrices}
 use Rattle.model.specs.Laws.Table.{table-length}
 
 pub matrix-at : (ms : List Matrix4) (rest : List Float) (j : ℕ) → j < length ms → take 16 (drop (outputAt j) (flat ms ++ rest)) ≡ floats (getD ms j identityMatrix)
@@ -24,8 +26,8 @@ matrix-at (m ∷ ms) rest (suc j) h =
 
 shown-length : (kind : FrameKind) (ms : List Matrix4) → length (shown kind ms) ≡ length ms
 unfolding shown
-shown-length ordinary ms = refl
-shown-length page ms = length-map ms pageMatrix
+shown-length Ordinary ms = refl
+shown-length Page ms = length-map ms pageMatrix
 
 pub frame-length : (plan : List ℕ) (numbers : List Float) (p : Player) (ext : Float) (kind : FrameKind) → length (frameMatrices plan numbers p ext kind) ≡ jointCount plan
 unfolding frameMatrices jointMatrices

@@ -4,13 +4,12 @@ use native.Mathlib.Omega.{arith}
 use mathlib.Core.Path.{_≡_, refl, subst}
 use mathlib.Core.Bool.{Bool, true, false, cond}
 use mathlib.Core.List.{List, [], _∷_, _++_}
-use lib.ListN.{length, getD, take, drop, length-drop, length-append}
-use lib.Seq.{length-take-le}
+use lib.ListN.{length, drop, length-append}
 use lib.Dec.{eqb}
 use Rattle.model.specs.declared.LineKind.{LineKind}
 use Rattle.model.specs.declared.LineKind.the-variants.{Figure, Joint, Clip, State, Node, Go, Pose}
 use Rattle.model.specs.Plan.{jointCount, clipCount, stateCount}
-use Rattle.model.specs.Text.{limits, decimalCount, bitsCount, Line, malformed, line, lineIn, Reading, bad, got, prefixed, andThen, times, fromLine, readLine, fromState, readState, readEnd, poseCount, readFigure}
+use Rattle.model.specs.Text.{front, forms, wordsIn, bitsIn, Line, malformed, line, lineIn, Reading, bad, got, prefixed, andThen, times, fromLine, readLine, fromState, readState, readEnd, poseCount, readFigure}
 use Rattle.model.specs.Laws.Text.{line-law}
 
 unfoldable pub Uses : List ℕ → Reading → Type 0
@@ -39,8 +38,7 @@ uses-line kind s = go (lineIn kind s) refl
     go : (l : Line) → lineIn kind s ≡ l → Uses s (fromLine kind l)
     go malformed e = tt
     go (line vs rest) e =
-        let law = line-law kind s vs rest e in
-        omega (arith, law .spent, law .count, length-take-le (decimalCount kind) vs (omega (arith, law .count)), length-drop (decimalCount kind) vs)
+        omega (arith, line-law kind s vs rest e .spent)
 
 -- K's line holds T as well, so two words' worth of text is left for when T is put
 owed : (s rest bs : List ℕ) (k t : ℕ) → 4 + 9 * length bs + length rest ≤ length s → (r : Reading) → Uses rest r
@@ -55,16 +53,16 @@ owed s rest bs k t h (got ws bs′ rest′ n) u = gos (times t (readLine Go) res
         omega (arith, h, u, v, length-append (k ∷ []) (ws ++ ((t ∷ []) ++ ws″)), length-append ws ((t ∷ []) ++ ws″), length-append bs (bs′ ++ ([] ++ bs″)), length-append bs′ ([] ++ bs″))
 
 uses-state : (s : List ℕ) → Uses s (readState s)
-unfolding readState fromState readLine fromLine limits bitsCount Uses
+unfolding readState fromState readLine fromLine forms wordsIn bitsIn Uses
 uses-state s = go (lineIn State s) refl
   where
     go : (l : Line) → lineIn State s ≡ l → Uses s (fromState (fromLine State l))
     go malformed e = tt
     go (line vs rest) e =
         let law = line-law State s vs rest e in
-        let k = getD (take 2 vs) 0 0 in
-        let t = getD (take 2 vs) 1 0 in
-        owed s rest (drop 2 vs) k t (omega (arith, law .spent, law .count, length-drop 2 vs)) (times k (readLine Node) rest) (uses-times k (readLine Node) rest (uses-line Node))
+        let k = front vs in
+        let t = front (drop 1 vs) in
+        owed s rest [] k t (omega (arith, law .spent)) (times k (readLine Node) rest) (uses-times k (readLine Node) rest (uses-line Node))
 
 uses-end : (s : List ℕ) → Uses s (readEnd s)
 unfolding readEnd Uses

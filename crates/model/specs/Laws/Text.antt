@@ -1,17 +1,17 @@
 -- Laws of reading: what a line's values are bounded by, and that every reading uses up text.
-use Prim.Native.Nat.{ℕ, zero, suc, _+_, _-_, _*_, _≤_, _<_, _^_}
+use Prim.Native.Nat.{ℕ, zero, suc, _+_, _*_, _≤_, _<_, _^_}
 use native.Mathlib.Omega.{arith}
 use mathlib.Core.Path.{_≡_, refl, sym, ap, _∙_, subst}
 use mathlib.Core.Bool.{Bool, true, false, cond, not, _&&_, _||_}
 use mathlib.Core.List.{List, [], _∷_}
 use lib.ListN.{length, getD, drop, length-drop}
 use lib.Dec.{leb, eqb}
-use borrow.Author.Tests.{lt-ltb, le-ltb, leb-true, eqb-true}
+use borrow.Author.Tests.{leb-true, eqb-true}
 use Rattle.model.specs.declared.LineKind.{LineKind}
 use Rattle.model.specs.declared.LineKind.the-variants.{Figure, Joint, Clip, State, Node, Go, Pose}
 use Rattle.model.specs.declared.FieldForm.{FieldForm}
 use Rattle.model.specs.declared.FieldForm.the-variants.{Decimal, Bits}
-use Rattle.model.specs.Text.{front, comma, lineFeed, run, numeral, baseOf, isField, Field, none, field, fieldIn, name, limits, bitsCount, decimalCount, fieldCount, formOf, Line, malformed, line, withField, fieldThen, lastFields, begins, lineIn}
+use Rattle.model.specs.Text.{front, comma, lineFeed, run, numeral, baseOf, isField, Field, none, field, fieldIn, maxWord, name, forms, fieldCount, formOf, Line, malformed, line, withField, fieldThen, fieldsIn, begins, lineIn, wordsIn, bitsIn}
 use Rattle.model.specs.Laws.Tests.{and-left, and-right}
 use Rattle.model.specs.Laws.Digits.{run-length, numeral-small}
 
@@ -71,15 +71,15 @@ field-law form s v rest e = go (isField form (run (baseOf form) s) s) refl e
 
 -- ---- the fields of a line
 
--- the fewest bytes of the last n fields, with their commas
-abbrev leastOf : LineKind → ℕ → ℕ
-leastOf kind zero = 0
-leastOf kind (suc n) = suc (leastBytes (formOf kind (fieldCount kind - suc n)) + leastOf kind n)
+-- the fewest bytes of fields, with their commas
+abbrev leastOf : List FieldForm → ℕ
+leastOf [] = 0
+leastOf (form ∷ later) = suc (leastBytes form + leastOf later)
 
-record FieldsLaw (kind : LineKind) (n : ℕ) (s vs rest : List ℕ) : Type 0 where
-  count : length vs ≡ n
-  most : (k : ℕ) → k < n → getD vs k 0 ≤ mostOf (formOf kind (fieldCount kind - n + k))
-  spent : leastOf kind n + 1 + length rest ≤ length s
+record FieldsLaw (forms : List FieldForm) (s vs rest : List ℕ) : Type 0 where
+  count : length vs ≡ length forms
+  most : (k : ℕ) → k < length forms → getD vs k 0 ≤ mostOf (getD forms k Bits)
+  spent : leastOf forms + 1 + length rest ≤ length s
 
 abbrev values-of : Line → List ℕ
 values-of malformed = []
@@ -98,68 +98,103 @@ there : (s : List ℕ) (b : ℕ) → front s ≡ suc b → 1 ≤ length s
 there [] b e = absurd (omega arith)
 there (x ∷ s) b e = omega arith
 
-fields-law : (kind : LineKind) (n : ℕ) (s vs rest : List ℕ) → n ≤ fieldCount kind → lastFields kind n s ≡ line vs rest → FieldsLaw kind n s vs rest
-unfolding lastFields withField fieldThen
-fields-law kind zero s vs rest h e = go (eqb (front s) lineFeed) refl e
+abbrev Fields : List FieldForm → Type 0
+Fields forms = (s vs rest : List ℕ) → fieldsIn forms s ≡ line vs rest → FieldsLaw forms s vs rest
+
+fields-law : (forms : List FieldForm) → Fields forms
+unfolding fieldsIn withField fieldThen
+fields-law [] s vs rest e = go (eqb (front s) lineFeed) refl e
   where
-    go : (t : Bool) → eqb (front s) lineFeed ≡ t → cond t (line [] (drop 1 s)) malformed ≡ line vs rest → FieldsLaw kind zero s vs rest
+    go : (t : Bool) → eqb (front s) lineFeed ≡ t → cond t (line [] (drop 1 s)) malformed ≡ line vs rest → FieldsLaw [] s vs rest
     go true t e =
         let p : [] ≡ vs = ap values-of e in
         let q : drop 1 s ≡ rest = ap rest-of e in
         let i : 1 ≤ length s = there s 9 (eqb-true (front s) lineFeed t) in
         record { count = sym (ap length p); most = λ k l. absurd (omega arith); spent = omega (arith, length-drop 1 s, ap length q, i) }
     go false t e = absurd (subst is-line (sym e) tt)
-fields-law kind (suc n) s vs rest h e = go (eqb (front s) comma) refl e (fields-law kind n)
+fields-law (form ∷ forms) s vs rest e = go (eqb (front s) comma) refl e (fields-law forms)
   where
-    form : FieldForm
-    form = formOf kind (fieldCount kind - suc n)
-
-    more : (v : ℕ) (left : List ℕ) (l : Line) → fieldIn form (drop 1 s) ≡ field v left → lastFields kind n left ≡ l → withField v l ≡ line vs rest → 1 ≤ length s → ((s vs rest : List ℕ) → n ≤ fieldCount kind → lastFields kind n s ≡ line vs rest → FieldsLaw kind n s vs rest) → FieldsLaw kind (suc n) s vs rest
+    more : (v : ℕ) (left : List ℕ) (l : Line) → fieldIn form (drop 1 s) ≡ field v left → fieldsIn forms left ≡ l → withField v l ≡ line vs rest → 1 ≤ length s → Fields forms → FieldsLaw (form ∷ forms) s vs rest
     more v left malformed f l e i later = absurd (subst is-line (sym e) tt)
     more v left (line ws end) f l e i later =
-        let law = later left ws end (omega arith) l in
+        let law = later left ws end l in
         let here = field-law form (drop 1 s) v left f in
         let p : v ∷ ws ≡ vs = ap values-of e in
         let q : end ≡ rest = ap rest-of e in
         record {
           count = sym (ap length p) ∙ ap suc (law .count);
-          most = λ k l. subst (λ (xs : List ℕ). getD xs k 0 ≤ mostOf (formOf kind (fieldCount kind - suc n + k))) p (at k l (here .most) (law .most));
+          most = λ k l. subst (λ (xs : List ℕ). getD xs k 0 ≤ mostOf (getD (form ∷ forms) k Bits)) p (at k l (here .most) (law .most));
           spent = omega (arith, length-drop 1 s, ap length q, i, here .spent, law .spent);
         }
       where
-        at : (k : ℕ) → k < suc n → v ≤ mostOf form → ((k : ℕ) → k < n → getD ws k 0 ≤ mostOf (formOf kind (fieldCount kind - n + k))) → getD (v ∷ ws) k 0 ≤ mostOf (formOf kind (fieldCount kind - suc n + k))
-        at zero l first later = let z : fieldCount kind - suc n + 0 ≡ fieldCount kind - suc n = omega arith in rw z first
-        at (suc k) l first later = let z : fieldCount kind - suc n + suc k ≡ fieldCount kind - n + k = omega arith in rw z (later k (omega arith))
+        at : (k : ℕ) → k < suc (length forms) → v ≤ mostOf form → ((k : ℕ) → k < length forms → getD ws k 0 ≤ mostOf (getD forms k Bits)) → getD (v ∷ ws) k 0 ≤ mostOf (getD (form ∷ forms) k Bits)
+        at zero l first later = first
+        at (suc k) l first later = later k (omega arith)
 
-    one : (f : Field) → fieldIn form (drop 1 s) ≡ f → fieldThen f (lastFields kind n) ≡ line vs rest → 1 ≤ length s → ((s vs rest : List ℕ) → n ≤ fieldCount kind → lastFields kind n s ≡ line vs rest → FieldsLaw kind n s vs rest) → FieldsLaw kind (suc n) s vs rest
+    one : (f : Field) → fieldIn form (drop 1 s) ≡ f → fieldThen f (fieldsIn forms) ≡ line vs rest → 1 ≤ length s → Fields forms → FieldsLaw (form ∷ forms) s vs rest
     one none f e i later = absurd (subst is-line (sym e) tt)
-    one (field v left) f e i later = more v left (lastFields kind n left) f refl e i later
+    one (field v left) f e i later = more v left (fieldsIn forms left) f refl e i later
 
-    go : (t : Bool) → eqb (front s) comma ≡ t → cond t (fieldThen (fieldIn form (drop 1 s)) (lastFields kind n)) malformed ≡ line vs rest → ((s vs rest : List ℕ) → n ≤ fieldCount kind → lastFields kind n s ≡ line vs rest → FieldsLaw kind n s vs rest) → FieldsLaw kind (suc n) s vs rest
+    go : (t : Bool) → eqb (front s) comma ≡ t → cond t (fieldThen (fieldIn form (drop 1 s)) (fieldsIn forms)) malformed ≡ line vs rest → Fields forms → FieldsLaw (form ∷ forms) s vs rest
     go true t e later = one (fieldIn form (drop 1 s)) refl e (there s 43 (eqb-true (front s) comma t)) later
     go false t e later = absurd (subst is-line (sym e) tt)
 
 -- ---- a line
 
-abbrev all65535 : List ℕ → Bool
-all65535 [] = true
-all65535 (x ∷ xs) = leb x 65535 && all65535 xs
+-- how many fields of either form there are, whatever their values
+module _ (later : List FieldForm) where
+  abbrev pub wordCount : ℕ
+  wordCount = length (wordsIn later [])
 
-small-at : (xs : List ℕ) (k : ℕ) → all65535 xs ≡ true → getD xs k 0 ≤ 65535
-small-at [] k e = omega arith
-small-at (x ∷ xs) zero e = leb-true x 65535 (and-left (leb x 65535) (all65535 xs) e)
-small-at (x ∷ xs) (suc k) e = small-at xs k (and-right (leb x 65535) (all65535 xs) e)
+  abbrev pub bitsCount : ℕ
+  bitsCount = length (bitsIn later [])
+
+pub words-count : (forms : List FieldForm) (vs : List ℕ) → length (wordsIn forms vs) ≡ wordCount forms
+unfolding wordsIn
+words-count [] vs = refl
+words-count (Decimal limit ∷ forms) vs = ap suc (words-count forms (drop 1 vs) ∙ sym (words-count forms (drop 1 [])))
+words-count (Bits ∷ forms) vs = words-count forms (drop 1 vs) ∙ sym (words-count forms (drop 1 []))
+
+pub bits-count : (forms : List FieldForm) (vs : List ℕ) → length (bitsIn forms vs) ≡ bitsCount forms
+unfolding bitsIn
+bits-count [] vs = refl
+bits-count (Decimal limit ∷ forms) vs = bits-count forms (drop 1 vs) ∙ sym (bits-count forms (drop 1 []))
+bits-count (Bits ∷ forms) vs = ap suc (bits-count forms (drop 1 vs) ∙ sym (bits-count forms (drop 1 [])))
+
+-- two bytes a decimal, nine a pattern
+least-bytes : (forms : List FieldForm) → leastOf forms ≡ 2 * wordCount forms + 9 * bitsCount forms
+unfolding wordsIn bitsIn
+least-bytes [] = refl
+least-bytes (Decimal limit ∷ forms) = omega (arith, least-bytes forms, words-count forms (drop 1 []), bits-count forms (drop 1 []))
+least-bytes (Bits ∷ forms) = omega (arith, least-bytes forms, words-count forms (drop 1 []), bits-count forms (drop 1 []))
+
+-- no limit is above that of a word
+abbrev allWords : List FieldForm → Bool
+allWords [] = true
+allWords (Decimal limit ∷ forms) = leb limit maxWord && allWords forms
+allWords (Bits ∷ forms) = allWords forms
+
+-- a value by the form of its field
+abbrev pub Bounded : FieldForm → ℕ → Type 0
+Bounded (Decimal limit) v = (v ≤ limit) × (v < 65536)
+Bounded Bits v = v < 2 ^ 32
+
+bounded : (forms : List FieldForm) → allWords forms ≡ true → (k v : ℕ) → k < length forms → v ≤ mostOf (getD forms k Bits) → Bounded (getD forms k Bits) v
+bounded [] ok k v h most = absurd (omega arith)
+bounded (Decimal limit ∷ forms) ok zero v h most =
+    (most, omega (arith, most, leb-true limit maxWord (and-left (leb limit maxWord) (allWords forms) ok)))
+bounded (Decimal limit ∷ forms) ok (suc k) v h most = bounded forms (and-right (leb limit maxWord) (allWords forms) ok) k v (omega arith) most
+bounded (Bits ∷ forms) ok zero v h most = omega (arith, most)
+bounded (Bits ∷ forms) ok (suc k) v h most = bounded forms ok k v (omega arith) most
 
 pub record LineLaw (kind : LineKind) (s vs rest : List ℕ) : Type 0 where
   pub count : length vs ≡ fieldCount kind
-  pub limit : (k : ℕ) → k < decimalCount kind → getD vs k 0 ≤ getD (limits kind) k 0
-  pub word : (k : ℕ) → k < decimalCount kind → getD vs k 0 < 65536
-  pub pattern : (k : ℕ) → k < bitsCount kind → getD vs (decimalCount kind + k) 0 < 2 ^ 32
-  pub spent : 3 + 2 * decimalCount kind + 9 * bitsCount kind + length rest ≤ length s
+  pub value : (k : ℕ) → k < fieldCount kind → Bounded (formOf kind k) (getD vs k 0)
+  pub spent : 3 + 2 * length (wordsIn (forms kind) vs) + 9 * length (bitsIn (forms kind) vs) + length rest ≤ length s
 
 -- what the kinds have in common, by looking at each
-limits-small : (kind : LineKind) → all65535 (limits kind) ≡ true
-unfolding limits
+limits-small : (kind : LineKind) → allWords (forms kind) ≡ true
+unfolding forms
 limits-small Figure = refl
 limits-small Joint = refl
 limits-small Clip = refl
@@ -167,16 +202,6 @@ limits-small State = refl
 limits-small Node = refl
 limits-small Go = refl
 limits-small Pose = refl
-
-least-of-kind : (kind : LineKind) → leastOf kind (fieldCount kind) ≡ 2 * decimalCount kind + 9 * bitsCount kind
-unfolding limits bitsCount formOf
-least-of-kind Figure = refl
-least-of-kind Joint = refl
-least-of-kind Clip = refl
-least-of-kind State = refl
-least-of-kind Node = refl
-least-of-kind Go = refl
-least-of-kind Pose = refl
 
 name-of-kind : (kind : LineKind) → leb 2 (length (name kind)) ≡ true
 unfolding name
@@ -188,35 +213,18 @@ name-of-kind Node = refl
 name-of-kind Go = refl
 name-of-kind Pose = refl
 
-decimal-form : (kind : LineKind) (k : ℕ) → k < decimalCount kind → formOf kind k ≡ Decimal (getD (limits kind) k 0)
-unfolding formOf
-decimal-form kind k h = simp (lt-ltb k (decimalCount kind) h)
-
-bits-form : (kind : LineKind) (k : ℕ) → decimalCount kind ≤ k → formOf kind k ≡ Bits
-unfolding formOf
-bits-form kind k h = simp (le-ltb k (decimalCount kind) h)
-
-line-of-fields : (kind : LineKind) (s vs rest : List ℕ) → FieldsLaw kind (fieldCount kind) (drop (length (name kind)) s) vs rest → LineLaw kind s vs rest
+line-of-fields : (kind : LineKind) (s vs rest : List ℕ) → FieldsLaw (forms kind) (drop (length (name kind)) s) vs rest → LineLaw kind s vs rest
 line-of-fields kind s vs rest law =
-    let z : fieldCount kind - fieldCount kind ≡ 0 = omega arith in
-    let most : (k : ℕ) → k < fieldCount kind → getD vs k 0 ≤ mostOf (formOf kind k) = λ k h.
-    let e : fieldCount kind - fieldCount kind + k ≡ k = omega arith in subst (λ (i : ℕ). getD vs k 0 ≤ mostOf (formOf kind i)) e (law .most k h) in
-    let limit : (k : ℕ) → k < decimalCount kind → getD vs k 0 ≤ getD (limits kind) k 0 = λ k h.
-    subst (λ (f : FieldForm). getD vs k 0 ≤ mostOf f) (decimal-form kind k h) (most k (omega arith)) in
-    let pattern : (k : ℕ) → k < bitsCount kind → getD vs (decimalCount kind + k) 0 ≤ 4294967295 = λ k h.
-    subst (λ (f : FieldForm). getD vs (decimalCount kind + k) 0 ≤ mostOf f) (bits-form kind (decimalCount kind + k) (omega arith)) (most (decimalCount kind + k) (omega arith)) in
     record {
       count = law .count;
-      limit = limit;
-      word = λ k h. omega (arith, limit k h, small-at (limits kind) k (limits-small kind));
-      pattern = λ k h. omega (arith, pattern k h);
-      spent = omega (arith, law .spent, length-drop (length (name kind)) s, least-of-kind kind, leb-true 2 (length (name kind)) (name-of-kind kind));
+      value = λ k h. bounded (forms kind) (limits-small kind) k (getD vs k 0) h (law .most k h);
+      spent = omega (arith, law .spent, length-drop (length (name kind)) s, least-bytes (forms kind), words-count (forms kind) vs, bits-count (forms kind) vs, leb-true 2 (length (name kind)) (name-of-kind kind));
     }
 
 pub line-law : (kind : LineKind) (s vs rest : List ℕ) → lineIn kind s ≡ line vs rest → LineLaw kind s vs rest
 unfolding lineIn
 line-law kind s vs rest e = go (begins (name kind) s) e
   where
-    go : (t : Bool) → cond t (lastFields kind (fieldCount kind) (drop (length (name kind)) s)) malformed ≡ line vs rest → LineLaw kind s vs rest
-    go true e = line-of-fields kind s vs rest (fields-law kind (fieldCount kind) (drop (length (name kind)) s) vs rest (omega arith) e)
+    go : (t : Bool) → cond t (fieldsIn (forms kind) (drop (length (name kind)) s)) malformed ≡ line vs rest → LineLaw kind s vs rest
+    go true e = line-of-fields kind s vs rest (fields-law (forms kind) (drop (length (name kind)) s) vs rest e)
     go false e = absurd (subst is-line (sym e) tt)

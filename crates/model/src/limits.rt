@@ -1,0 +1,44 @@
+// Document 01's limits and sizes, under the names that the definitions in specs/ have (`maxJoints`, ..), and what follows from them. Code has them from here;
+// contracts have the definitions', so a function builds only where the two agree.
+
+pub const MAX_JOINTS: usize = 64;
+
+pub const MAX_CLIPS: usize = 16;
+
+pub const MAX_PARAMETERS: usize = 32;
+
+pub const MAX_STATES: usize = 16;
+
+pub const MAX_SAMPLES: usize = 4096;
+
+pub const MAX_NODES: usize = 31;
+
+pub const MAX_TRANSITIONS: usize = 16;
+
+pub const MAX_CLIP_NODES: usize = 64;
+
+// The parent of a root.
+pub const ROOT: usize = 255;
+
+// The largest word of a plan and decimal of a text.
+pub const MAX_WORD: usize = 65535;
+
+// The longest text that the program reads.
+pub const MAX_TEXT: usize = 65536;
+
+// ---- floats
+
+pub const POSE_FLOATS: usize = 8;
+
+pub const MATRIX_FLOATS: usize = 16;
+
+pub const INSTANCE_FLOATS: usize = 3;
+
+// Of a player's instances.
+pub const MAX_INSTANCES: usize = INSTANCE_FLOATS * MAX_CLIP_NODES;
+
+// Of the longest output.
+pub const MAX_OUTPUT: usize = MATRIX_FLOATS * MAX_JOINTS;
+
+// Of the longest text: a comma and eight digits each.
+pub const MAX_NUMBERS: usize = MAX_TEXT / 9;
