@@ -6,8 +6,9 @@ use mathlib.Core.Bool.{false}
 use mathlib.Core.List.{List, [], _∷_, List·Memᴰ}
 use lib.ListN.{length, getD}
 use lib.Ieee.{Float, nan}
+use Rattle.model.specs.declared.FrameKind.{FrameKind}
 use Rattle.model.specs.Plan.{jointCount, parent, isRoot, NumberName, numberAt}
-use Rattle.model.specs.Run.{FrameKind, Call, Update, Speed, Set, Frame}
+use Rattle.model.specs.Run.{Call, Update, Speed, Set, Frame}
 use Rattle.model.specs.Unseen.{Read, InPlan, Unseen}
 
 -- a 'closed set' of joints has each member's parent, unless that member is a root

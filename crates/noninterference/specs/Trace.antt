@@ -6,9 +6,10 @@ use lib.ListN.{length, take, drop}
 use lib.Ieee.{Float}
 use Rattle.model.specs.declared.Player.{Player}
 use Rattle.model.specs.declared.Outcome.{Outcome}
+use Rattle.model.specs.declared.FrameKind.{FrameKind}
 use Rattle.model.specs.Answers.{Verdict, accepted, values}
 use Rattle.model.specs.Plan.{outputAt}
-use Rattle.model.specs.Run.{FrameKind, Call, Update, Speed, Set, Frame, Observation, observation}
+use Rattle.model.specs.Run.{Call, Update, Speed, Set, Frame, Observation, observation}
 use Rattle.model.specs.Promises.{Started, Updated, SpeedSet, ParameterSet, Framed}
 
 -- a call, its answer, the player that it returned, and the output buffer after it

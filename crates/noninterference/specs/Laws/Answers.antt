@@ -23,7 +23,7 @@ accepted-answerable = record { answer = Accepted; is = refl }
 pub require-answerable : (ok : Bool) (n p : ℕ) → Answerable (require ok n p)
 unfolding require values
 require-answerable true n p = record { answer = Accepted; is = refl }
-require-answerable false n p = record { answer = Refused n p; is = refl }
+require-answerable false n p = record { answer = Refused (record { number = n; place = p }); is = refl }
 
 then-answerable : {a b : Verdict} → Answerable a → Answerable b → Answerable (a then b)
 unfolding _then_

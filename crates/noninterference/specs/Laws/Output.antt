@@ -8,11 +8,12 @@ use lib.Ieee.{Float}
 use Rattle.model.specs.declared.Player.{Player}
 use Rattle.model.specs.declared.Outcome.{Outcome}
 use Rattle.model.specs.Rotations.{identityMatrix, floats}
+use Rattle.model.specs.declared.FrameKind.{FrameKind}
 use Rattle.model.specs.Answers.{Verdict, accepted, refused, values, unlessRefused}
 use Rattle.model.specs.Plan.{outputAt}
 use Rattle.model.specs.Controller.{blank, fresh, frameVerdict}
 use Rattle.model.specs.Skeleton.{written}
-use Rattle.model.specs.Run.{startVerdict, startPlayer, FrameKind, frameMatrices, Update, Speed, Set, Frame, callVerdict, changed, after, chosenFloats, Observation, observation, runFrom, run}
+use Rattle.model.specs.Run.{startVerdict, startPlayer, frameMatrices, Update, Speed, Set, Frame, callVerdict, changed, after, chosenFloats, Observation, observation, runFrom, run}
 use Rattle.model.specs.Promises.{Updated, SpeedSet, ParameterSet, Framed}
 use Rattle.model.specs.Laws.Output.{matrix-at, frame-length}
 use Rattle.noninterference.specs.Alike.{Closed}

@@ -10,16 +10,20 @@ use Rattle.model.specs.declared.Matrix4.{Matrix4}
 use Rattle.model.specs.declared.Player.{Player}
 use Rattle.model.specs.declared.Transition.{Transition}
 use Rattle.model.specs.declared.Transition.the-variants.{Idle, Running}
+use Rattle.model.specs.declared.Winner.{Winner}
+use Rattle.model.specs.declared.Winner.the-variants.{At, Nothing}
+use Rattle.model.specs.declared.FrameKind.{FrameKind}
+use Rattle.model.specs.declared.FrameKind.the-variants.{Ordinary, Page}
 use Rattle.model.specs.Numbers.{0f}
 use Rattle.model.specs.Rotations.{identityMatrix, product, floats}
 use Rattle.model.specs.Pose.{toMatrix}
 use Rattle.model.specs.Answers.{Verdict, accepted, refused, unlessRefused}
 use Rattle.model.specs.Plan.{maxParameters, jointCount, stateCount, parent, isRoot, transitionCount}
 use Rattle.model.specs.Check.{check}
-use Rattle.model.specs.Controller.{blank, synchronizeStates, fresh, frameVerdict, nowAt, isEnded, conditionHolds, begun, firstPassing, stepFrom, stepped, elapsed, currentInstances, targetInstances, instancesIn, synchronized, currentPose, targetPose, poseIn, jointPose}
+use Rattle.model.specs.Controller.{blank, synchronizeStates, fresh, frameVerdict, nowAt, isEnded, conditionHolds, firstPassing, winner, startedBy, stepFrom, stepped, elapsed, currentInstances, targetInstances, instancesIn, synchronized, currentPose, targetPose, poseIn, jointPose}
 use Rattle.model.specs.Tree.{statePose}
 use Rattle.model.specs.Skeleton.{parentMatrix, jointMatrix, jointMatrices, pageMatrix}
-use Rattle.model.specs.Run.{FrameKind, ordinary, page, shown, framePlayer, frameMatrices, Call, callVerdict, changed, after, chosenFloats, observation, runFrom}
+use Rattle.model.specs.Run.{shown, framePlayer, frameMatrices, Call, callVerdict, changed, after, chosenFloats, observation, runFrom}
 use Rattle.model.specs.Unseen.{Reachable, initial, target, Read, byCondition}
 use Rattle.model.specs.Laws.Passed.{parent-earlier, reachable-below}
 use Rattle.model.specs.Laws.Table.{table-at}
@@ -66,10 +70,10 @@ module _ (plan chosen : List ℕ) (k : ℕ) (ok : check plan k ≡ accepted) (cl
 -- what a kind of frame shows of equal matrices is equal
 shown-same : (kind : FrameKind) (ms ns : List Matrix4) (j : ℕ) → getD ms j identityMatrix ≡ getD ns j identityMatrix → getD (shown kind ms) j identityMatrix ≡ getD (shown kind ns) j identityMatrix
 unfolding shown pageMatrix identityMatrix
-shown-same ordinary ms ns j e = e
-shown-same page ms ns j e = paged ms ∙ ap pageMatrix e ∙ sym (paged ns)
+shown-same Ordinary ms ns j e = e
+shown-same Page ms ns j e = paged ms ∙ ap pageMatrix e ∙ sym (paged ns)
   where
-    paged : (l : List Matrix4) → getD (shown page l) j identityMatrix ≡ pageMatrix (getD l j identityMatrix)
+    paged : (l : List Matrix4) → getD (shown Page l) j identityMatrix ≡ pageMatrix (getD l j identityMatrix)
     paged l = List·getD-map pageMatrix l j identityMatrix
 
 -- ---- controller
@@ -80,32 +84,50 @@ module _ (plan chosen : List ℕ) (a b : List Float) (ok : check plan (length a)
 
   -- ---- step 1
 
-  first-same : {s : ℕ} {l m : List Float} (now : Float) → Reachable plan s → SameAt nan (Read plan) l m
-      → (n t : ℕ) → t + n ≤ transitionCount plan s → firstPassing plan a l now s t n ≡ firstPassing plan b m now s t n
+  first-same : {s : ℕ} {l m : List Float} → Reachable plan s → SameAt nan (Read plan) l m
+      → (n t : ℕ) → t + n ≤ transitionCount plan s → firstPassing plan a l s t n ≡ firstPassing plan b m s t n
   unfolding firstPassing
-  first-same now r ps zero t h = refl
-  first-same now r ps (suc n) t h =
-      rw (ps .at _ (byCondition r t (omega arith)), value-same plan chosen a b ok closed alike r t (omega arith), transition-duration-same plan chosen a b ok closed alike r t (omega arith), first-same now r ps n (suc t) (omega arith))
+  first-same r ps zero t h = refl
+  first-same r ps (suc n) t h =
+      rw (ps .at _ (byCondition r t (omega arith)), value-same plan chosen a b ok closed alike r t (omega arith), first-same r ps n (suc t) (omega arith))
 
-  first-reachable : {s : ℕ} (l : List Float) (now : Float) → Reachable plan s → (n t : ℕ) → t + n ≤ transitionCount plan s → TargetReachable plan (firstPassing plan a l now s t n)
+  -- a winner is one of the state's transitions
+  abbrev OneOf : ℕ → Winner → Type 0
+  OneOf s Nothing = Unit {0}
+  OneOf s (At t) = t < transitionCount plan s
+
+  first-one : (s : ℕ) (l : List Float) (n t : ℕ) → t + n ≤ transitionCount plan s → OneOf s (firstPassing plan a l s t n)
   unfolding firstPassing
-  first-reachable l now r zero t h = tt
-  first-reachable {s} l now r (suc n) t h =
-      cond-has (TargetReachable plan) (conditionHolds plan a l s t) {x = begun plan a now s t} {y = firstPassing plan a l now s (suc t) n} (target r t (omega arith)) (first-reachable l now r n (suc t) (omega arith))
+  first-one s l zero t h = tt
+  first-one s l (suc n) t h =
+      cond-has (OneOf s) (conditionHolds plan a l s t) {x = At t} {y = firstPassing plan a l s (suc t) n} (omega arith) (first-one s l n (suc t) (omega arith))
+
+  started-same : {s : ℕ} (now : Float) → Reachable plan s → (w : Winner) → OneOf s w → startedBy plan a now s w ≡ startedBy plan b now s w
+  unfolding startedBy
+  started-same now r Nothing h = refl
+  started-same now r (At t) h = rw (transition-duration-same plan chosen a b ok closed alike r t h)
+
+  started-reachable : {s : ℕ} (now : Float) → Reachable plan s → (w : Winner) → OneOf s w → TargetReachable plan (startedBy plan a now s w)
+  unfolding startedBy
+  started-reachable now r Nothing h = tt
+  started-reachable now r (At t) h = target r t h
 
   module _ (p q : Player) (h : LowEquivalent plan p q) (now : Float) where
     step-equivalent : (t : Transition) → TargetReachable plan t → LowEquivalent plan (stepFrom plan a now p t) (stepFrom plan b now q t)
-    unfolding stepFrom
+    unfolding stepFrom winner
     step-equivalent Idle r =
+        let w = winner plan a (p .parameters) (p .state) in
+        let one : OneOf (p .state) w = first-one (p .state) (p .parameters) (transitionCount plan (p .state)) 0 (omega arith) in
         record {
           clock = h .clock;
           speed = h .speed;
           state = h .state;
           transition =
-              first-same now (h .reachable) (h .parameters) (transitionCount plan (p .state)) 0 (omega arith)
-              ∙ ap (λ (s : ℕ). firstPassing plan b (q .parameters) now s 0 (transitionCount plan s)) (h .state);
+              started-same now (h .reachable) w one
+              ∙ ap (startedBy plan b now (p .state)) (first-same (h .reachable) (h .parameters) (transitionCount plan (p .state)) 0 (omega arith))
+              ∙ ap (λ (s : ℕ). startedBy plan b now s (winner plan b (q .parameters) s)) (h .state);
           reachable = h .reachable;
-          target = first-reachable (p .parameters) now (h .reachable) (transitionCount plan (p .state)) 0 (omega arith);
+          target = started-reachable now (h .reachable) w one;
           parameters = h .parameters;
           instances = h .instances;
         }
