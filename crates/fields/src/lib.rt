@@ -1,4 +1,4 @@
-// Fields of a text. The work is done on a slice and a position; `Fields` holds the two together, in functions that only take it apart.
+// The field at a place of a text. The cursor that walks over a line's fields is in `lines`.
 use model::FieldForm;
 ghost use mathlib.Core.Path.{_≡_};
 ghost use Prim.Native.Nat.{_+_, _-_, _<_, _≤_, _^_};
@@ -7,6 +7,20 @@ ghost use Rattle.model.specs.Text.{digit, run, numeral, fieldIn};
 ghost use Rattle.model.specs.declared.FieldForm.the-variants as FieldForm;
 ghost use Rattle.fields.specs.Found.{found};
 ghost use Rattle.fields.specs.Wide.{wideBitsIn};
+
+const DECIMAL: usize = 10;
+
+const HEXADECIMAL: usize = 16;
+
+// How many digits the bits of a 32-bit float have, and the largest number that these write.
+const BITS_DIGITS: usize = 8;
+
+const MAX_BITS: usize = 0xffff_ffff;
+
+// The digits of a 64-bit float's bits, and what the upper half of them is multiplied by.
+const WIDE_DIGITS: usize = 2 * BITS_DIGITS;
+
+const UPPER: usize = MAX_BITS + 1;
 
 // A field's number and the place behind its last digit.
 pub enum Field {
@@ -21,22 +35,25 @@ pub fn byte(text: &[u8], at: usize) -> u8
     if at < text.len() { text[at] } else { 0 }
 }
 
+// What a letter's byte is above its value.
+const LETTERS: u8 = b'a' - 10;
+
 fn digit(b: u8) -> usize
     ensures { λ r. ⌜ r ≡ digit b ⌝ }
 {
-    if b < 48 {
-        return 16;
+    if b < b'0' {
+        return HEXADECIMAL;
     }
-    if b <= 57 {
-        return (b - 48) as usize;
+    if b <= b'9' {
+        return (b - b'0') as usize;
     }
-    if b < 97 {
-        return 16;
+    if b < b'a' {
+        return HEXADECIMAL;
     }
-    if b <= 102 {
-        return (b - 87) as usize;
+    if b <= b'f' {
+        return (b - LETTERS) as usize;
     }
-    16
+    HEXADECIMAL
 }
 
 // Where the run of digits that begins at `at` ends.
@@ -73,7 +90,7 @@ fn numeral(text: &[u8], at: usize, end: usize, base: usize, most: usize) -> usiz
 fn decimal_at(text: &[u8], at: usize, limit: u16) -> Field
     ensures { λ r. ⌜ found (now (text .entry)) r ≡ fieldIn (FieldForm.Decimal limit) (drop at (now (text .entry))) ⌝ }
 {
-    let end = run_end(text, at, 10);
+    let end = run_end(text, at, DECIMAL);
     if end == at {
         return Field::Nothing;
     }
@@ -83,7 +100,7 @@ fn decimal_at(text: &[u8], at: usize, limit: u16) -> Field
         }
     }
     let most = limit as usize;
-    let value = numeral(text, at, end, 10, most);
+    let value = numeral(text, at, end, DECIMAL, most);
     if most < value {
         return Field::Nothing;
     }
@@ -93,11 +110,11 @@ fn decimal_at(text: &[u8], at: usize, limit: u16) -> Field
 fn bits_at(text: &[u8], at: usize) -> Field
     ensures { λ r. ⌜ found (now (text .entry)) r ≡ fieldIn FieldForm.Bits (drop at (now (text .entry))) ⌝ }
 {
-    let end = run_end(text, at, 16);
-    if end - at != 8 {
+    let end = run_end(text, at, HEXADECIMAL);
+    if end - at != BITS_DIGITS {
         return Field::Nothing;
     }
-    let value = numeral(text, at, end, 16, 0xffff_ffff);
+    let value = numeral(text, at, end, HEXADECIMAL, MAX_BITS);
     Field::Value { value, end }
 }
 
@@ -105,49 +122,25 @@ fn bits_at(text: &[u8], at: usize) -> Field
 pub fn read_wide_bits(text: &[u8], at: usize) -> Field
     ensures { λ r. ⌜ found (now (text .entry)) r ≡ wideBitsIn (drop at (now (text .entry))) ⌝ }
 {
-    let end = run_end(text, at, 16);
-    if end - at != 16 {
+    let end = run_end(text, at, HEXADECIMAL);
+    if end - at != WIDE_DIGITS {
         return Field::Nothing;
     }
-    let high = numeral(text, at, at + 8, 16, 0xffff_ffff);
-    let low = numeral(text, at + 8, end, 16, 0xffff_ffff);
+    let middle = at + BITS_DIGITS;
+    let high = numeral(text, at, middle, HEXADECIMAL, MAX_BITS);
+    let low = numeral(text, middle, end, HEXADECIMAL, MAX_BITS);
     Field::Value {
-        value: high * 0x1_0000_0000 + low,
+        value: high * UPPER + low,
         end,
     }
 }
 
-fn field_at(text: &[u8], at: usize, form: FieldForm) -> Field
+// The field at a place of a text.
+pub fn read_field(text: &[u8], at: usize, form: FieldForm) -> Field
     ensures { λ r. ⌜ found (now (text .entry)) r ≡ fieldIn form (drop at (now (text .entry))) ⌝ }
 {
     match form {
         FieldForm::Decimal { limit } => decimal_at(text, at, limit),
         FieldForm::Bits => bits_at(text, at),
     }
-}
-
-// ---- the cursor: a text and a position in it, held together
-
-struct Fields<'a> {
-    text: &'a [u8],
-    at: usize,
-}
-
-fn new<'a>(text: &'a [u8], at: usize) -> Fields<'a>
-    ensures { λ r. ⌜ (r .text ≡ text .entry) × (r .at ≡ at) ⌝ }
-{
-    Fields { text, at }
-}
-
-fn read<'a>(fields: Fields<'a>, form: FieldForm) -> Field
-    ensures { λ r. ⌜ found (now (fields .entry .text)) r ≡ fieldIn form (drop (fields .entry .at) (now (fields .entry .text))) ⌝ }
-{
-    field_at(fields.text, fields.at, form)
-}
-
-// The field at a place of a text: what callers use, since its parameters are plain.
-pub fn read_field(text: &[u8], at: usize, form: FieldForm) -> Field
-    ensures { λ r. ⌜ found (now (text .entry)) r ≡ fieldIn form (drop at (now (text .entry))) ⌝ }
-{
-    read(new(text, at), form)
 }

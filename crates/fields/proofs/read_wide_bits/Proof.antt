@@ -37,11 +37,11 @@ both c =
       eight _ _ _ _ (omega arith) (second-half (args .text .now) (args .at) (omega arith)) (low .0) (low .1),
     )
 
-mul-t6 : tie.Need-mul-t6
-mul-t6 c = omega (arith, both c .0 .fits, both c .1 .fits)
+mul-t7 : tie.Need-mul-t7
+mul-t7 c = omega (arith, both c .0 .fits, both c .1 .fits)
 
-add-t8 : tie.Need-add-t8
-add-t8 c = omega (arith, both c .0 .fits, both c .1 .fits)
+add-t9 : tie.Need-add-t9
+add-t9 c = omega (arith, both c .0 .fits, both c .1 .fits)
 
 returns-2 : tie.Need-returns-2
 unfolding found wideBitsIn
@@ -58,8 +58,7 @@ read-wide-bits-spec =
     returns
     (search needs)
     numeral-requires
-    (search needs)
     numeral-requires-2
-    mul-t6
-    add-t8
+    mul-t7
+    add-t9
     returns-2)
