@@ -3,12 +3,15 @@ use model::ClipInstance;
 use model::Pose;
 use model::Quaternion;
 use model::Vector3;
+use model::limits::INSTANCE_FLOATS;
+use model::limits::MAX_INSTANCES;
 use transform::lerp;
 ghost use mathlib.Core.Path.{_≡_};
 ghost use Prim.Native.Nat.{suc, _+_, _%_, _<_, _≤_};
 ghost use lib.ListN.{length};
 ghost use Rattle.model.specs.Numbers.{_/₃₂_, indexFloat};
 ghost use Rattle.model.specs.Pose.{lerp as lerpPose};
+ghost use Rattle.model.specs.Plan.{maxClipNodes};
 ghost use Rattle.model.specs.Clips.{localTime, setPlaybackRate, instanceAt, setInstance};
 ghost use Rattle.animation.specs.Sampling.{positionIn, poseFrom};
 
@@ -75,24 +78,24 @@ pub fn set_playback_rate(i: ClipInstance, time: f32, rate: f32) -> ClipInstance
 }
 
 // Instance n of a player's.
-pub fn instance_at(instances: &[f32; 192], n: usize) -> ClipInstance
-    requires { ⌜ n < 64 ⌝ }
+pub fn instance_at(instances: &[f32; MAX_INSTANCES], n: usize) -> ClipInstance
+    requires { ⌜ n < maxClipNodes ⌝ }
     ensures { λ r. ⌜ r ≡ instanceAt (now (instances .entry)) n ⌝ }
 {
     ClipInstance {
-        start: instances[3 * n],
-        rate: instances[3 * n + 1],
-        offset: instances[3 * n + 2],
+        start: instances[INSTANCE_FLOATS * n],
+        rate: instances[INSTANCE_FLOATS * n + 1],
+        offset: instances[INSTANCE_FLOATS * n + 2],
     }
 }
 
-pub fn set_instance(instances: &mut [f32; 192], n: usize, i: ClipInstance)
-    requires { ⌜ n < 64 ⌝ }
+pub fn set_instance(instances: &mut [f32; MAX_INSTANCES], n: usize, i: ClipInstance)
+    requires { ⌜ n < maxClipNodes ⌝ }
     ensures { λ _. ⌜ now (instances .exit) ≡ setInstance (now (instances .entry)) n i ⌝ }
 {
-    instances[3 * n] = i.start;
-    instances[3 * n + 1] = i.rate;
-    instances[3 * n + 2] = i.offset;
+    instances[INSTANCE_FLOATS * n] = i.start;
+    instances[INSTANCE_FLOATS * n + 1] = i.rate;
+    instances[INSTANCE_FLOATS * n + 2] = i.offset;
 }
 
 pub fn pose_from(numbers: &[f32], at: usize) -> Pose

@@ -19,7 +19,7 @@ written block (w ∷ ws) = written (set block (w .0) (w .1)) ws
 -- they are in lane j, at its part m and the parts after it
 unfoldable InLane : ℕ → ℕ → List (ℕ × Float) → Type 0
 InLane j m [] = Unit
-InLane j m (w ∷ ws) = (w .0 ≡ 32 * m + j) × InLane j (suc m) ws
+InLane j m (w ∷ ws) = (w .0 ≡ blockSize * m + j) × InLane j (suc m) ws
 
 -- a block has their floats at their places
 unfoldable Has : List Float → List (ℕ × Float) → Type 0
@@ -33,7 +33,7 @@ Alike new old (w ∷ ws) = (getD new (w .0) nan ≡ getD old (w .0) nan) × Alik
 
 module _ (j : ℕ) (small : j < blockSize) where
   -- a place that is none of theirs is as before
-  kept : (ws : List (ℕ × Float)) (block : List Float) (m i : ℕ) → InLane j m ws → ((q : ℕ) → m ≤ q → i ≡ 32 * q + j → ⊥) → getD (written block ws) i nan ≡ getD block i nan
+  kept : (ws : List (ℕ × Float)) (block : List Float) (m i : ℕ) → InLane j m ws → ((q : ℕ) → m ≤ q → i ≡ blockSize * q + j → ⊥) → getD (written block ws) i nan ≡ getD block i nan
   unfolding written InLane
   kept [] block m i h apart = refl
   kept (w ∷ ws) block m i h apart =
@@ -41,7 +41,7 @@ module _ (j : ℕ) (small : j < blockSize) where
       ∙ getD-set-other block (w .0) i (w .1) nan (λ e. apart m (omega arith) (omega arith))
 
   -- no write is written over, since they are at rising places
-  has : (ws : List (ℕ × Float)) (block : List Float) (m : ℕ) → InLane j m ws → 32 * (m + length ws) ≤ length block → Has (written block ws) ws
+  has : (ws : List (ℕ × Float)) (block : List Float) (m : ℕ) → InLane j m ws → blockSize * (m + length ws) ≤ length block → Has (written block ws) ws
   unfolding written InLane Has
   has [] block m h room = tt
   has (w ∷ ws) block m h room =
@@ -61,14 +61,14 @@ module _ (j : ℕ) (small : j < blockSize) where
 
 abbrev pub poseWrites : ℕ → Pose → List (ℕ × Float)
 poseWrites j p =
-    (j, p .translation .x) ∷ (32 + j, p .translation .y) ∷ (64 + j, p .translation .z) ∷ (96 + j, p .scale)
-    ∷ (128 + j, p .rotation .w) ∷ (160 + j, p .rotation .x) ∷ (192 + j, p .rotation .y) ∷ (224 + j, p .rotation .z) ∷ []
+    (j, p .translation .x) ∷ (blockSize + j, p .translation .y) ∷ (2 * blockSize + j, p .translation .z) ∷ (3 * blockSize + j, p .scale)
+    ∷ (4 * blockSize + j, p .rotation .w) ∷ (5 * blockSize + j, p .rotation .x) ∷ (6 * blockSize + j, p .rotation .y) ∷ (7 * blockSize + j, p .rotation .z) ∷ []
 
 in-lane : (j : ℕ) (p : Pose) → InLane j 0 (poseWrites j p)
 unfolding InLane
 in-lane j p = omega arith
 
-module _ (block : List Float) (j : ℕ) (p : Pose) (full : length block ≡ 256) (small : j < blockSize) where
+module _ (block : List Float) (j : ℕ) (p : Pose) (full : length block ≡ 8 * blockSize) (small : j < blockSize) where
   pub lane-set : LaneSet block j p (written block (poseWrites j p))
   unfolding laneAt Has Alike
   lane-set = record {

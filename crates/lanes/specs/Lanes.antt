@@ -1,5 +1,5 @@
--- A block of poses held part by part: part k of lane j is float k × 32 + j, so that a loop over lanes works on neighbouring floats. Definitions only.
-use Prim.Native.Nat.{ℕ, _+_, _<_}
+-- A block of poses held part by part: part k of lane j is float k × blockSize + j, so that a loop over lanes works on neighbouring floats. Definitions only.
+use Prim.Native.Nat.{ℕ, _+_, _*_, _<_}
 use mathlib.Core.Path.{_≡_}
 use mathlib.Core.List.{List}
 use lib.ListN.{getD}
@@ -16,9 +16,9 @@ blockSize = 32
 unfoldable pub laneAt : List Float → ℕ → Pose
 laneAt block j =
     record {
-      translation = vector (getD block j nan) (getD block (32 + j) nan) (getD block (64 + j) nan);
-      scale = getD block (96 + j) nan;
-      rotation = quaternion (getD block (128 + j) nan) (getD block (160 + j) nan) (getD block (192 + j) nan) (getD block (224 + j) nan);
+      translation = vector (getD block j nan) (getD block (blockSize + j) nan) (getD block (2 * blockSize + j) nan);
+      scale = getD block (3 * blockSize + j) nan;
+      rotation = quaternion (getD block (4 * blockSize + j) nan) (getD block (5 * blockSize + j) nan) (getD block (6 * blockSize + j) nan) (getD block (7 * blockSize + j) nan);
     }
 
 -- `new` holds p in lane j, and is `old` in every other lane
