@@ -2,10 +2,12 @@
 use Prim.Native.Nat.{ℕ, _+_}
 use mathlib.Core.Path.{_≡_}
 use mathlib.Core.List.{List, map}
-use lib.ListN.{length}
+use lib.ListN.{length, take, drop}
 use lib.Seq.{sets}
 use lib.Ieee.{Float, binary32, toBits}
-use Rattle.model.specs.Program.{bitsFields}
+use Rattle.model.specs.Plan.{outputAt}
+use Rattle.model.specs.Program.{bitsFields, jointLine, joined}
+use Rattle.printing.specs.Sizes.{matrixFloats}
 
 -- `after` is `before` with the text stored from place `at` on, and `end` is the place behind the text
 pub record Written (before : List ℕ) (at : ℕ) (text after : List ℕ) (end : ℕ) : Type 0 where
@@ -15,3 +17,11 @@ pub record Written (before : List ℕ) (at : ℕ) (text after : List ℕ) (end :
 -- the fields of floats
 abbrev pub floatFields : List Float → List ℕ
 floatFields xs = bitsFields (map (toBits binary32) xs)
+
+-- joint j's matrix in an output
+abbrev pub matrixIn : List Float → ℕ → List Float
+matrixIn output j = take matrixFloats (drop (outputAt j) output)
+
+-- the lines of an output's first joints
+abbrev pub jointLines : ℕ → List Float → List ℕ
+jointLines count output = joined count (λ j. jointLine j (matrixIn output j))

@@ -1,14 +1,38 @@
 // What programs print, put into a slice of bytes from a place on: fields, a refusal, a line for each joint. Each function returns the place behind what it put.
 use float::f32_to_bits;
+use model::Refusal;
+use model::limits::MATRIX_FLOATS;
+use model::limits::MAX_JOINTS;
 ghost use mathlib.Core.Path.{_≡_};
 ghost use mathlib.Core.List.{[], _∷_};
 ghost use Prim.Native.Nat.{_+_, _*_, _<_, _≤_};
-ghost use lib.ListN.{length, take, drop};
+ghost use lib.ListN.{length};
 ghost use lib.Seq.{sets};
 ghost use lib.Ieee.{binary32, toBits};
 ghost use Rattle.model.specs.Text.{comma};
-ghost use Rattle.model.specs.Program.{glyph, digits, places, decimalFields, refusedLine, jointLine, joined};
-ghost use Rattle.printing.specs.Written.{Written, floatFields};
+ghost use Rattle.model.specs.Plan.{maxJoints, outputAt};
+ghost use Rattle.model.specs.Program.{glyph, digits, places, decimalFields, refusedLine, jointLine};
+ghost use Rattle.printing.specs.Written.{Written, floatFields, matrixIn, jointLines};
+ghost use Rattle.printing.specs.Sizes.{maxDigits, decimalSize, floatSize, refusalSize, jointSize};
+
+// Digits of a float's bits, of any number, and of an index of joints or clip nodes.
+const FLOAT_DIGITS: usize = 8;
+
+const MAX_DIGITS: usize = 20;
+
+const INDEX_DIGITS: usize = 2;
+
+// How many bytes fields and lines have at the most; specs/Sizes.antt has the same for contracts.
+pub const DECIMAL_SIZE: usize = 1 + MAX_DIGITS;
+
+pub const FLOAT_SIZE: usize = 1 + FLOAT_DIGITS;
+
+pub const REFUSAL_SIZE: usize = 7 + 2 * DECIMAL_SIZE + 1;
+
+const JOINT_SIZE: usize = 5 + (1 + INDEX_DIGITS) + MATRIX_FLOATS * FLOAT_SIZE + 1;
+
+// All that the program prints.
+pub const MAX_PRINTED: usize = MAX_JOINTS * JOINT_SIZE;
 
 fn glyph(d: usize) -> u8
     requires { ⌜ d < 16 ⌝ }
@@ -33,7 +57,7 @@ fn put_digits(out: &mut [u8], at: usize, base: usize, count: usize, n: usize)
 
 // How many decimal digits n has.
 fn places(n: usize) -> usize
-    ensures { λ r. ⌜ (r ≡ places 19 n) × (r ≤ 20) ⌝ }
+    ensures { λ r. ⌜ (r ≡ places 19 n) × (r ≤ maxDigits) ⌝ }
 {
     let mut rest = n;
     let mut k = 1;
@@ -67,8 +91,8 @@ pub fn put_field(out: &mut [u8], at: usize, base: usize, count: usize, n: usize)
 }
 
 pub fn put_decimal(out: &mut [u8], at: usize, n: usize) -> usize
-    requires { ⌜ at + 21 ≤ length (now out) ⌝ }
-    ensures { λ r. ⌜ Written (now (out .entry)) at (decimalFields (n ∷ [])) (now (out .exit)) r × (r ≤ at + 21) ⌝ }
+    requires { ⌜ at + decimalSize ≤ length (now out) ⌝ }
+    ensures { λ r. ⌜ Written (now (out .entry)) at (decimalFields (n ∷ [])) (now (out .exit)) r × (r ≤ at + decimalSize) ⌝ }
 {
     put_field(out, at, 10, places(n), n)
 }
@@ -81,15 +105,15 @@ fn bits(x: f32) -> usize
 
 // A comma, and the bits of x.
 pub fn put_bits(out: &mut [u8], at: usize, x: f32) -> usize
-    requires { ⌜ at + 9 ≤ length (now out) ⌝ }
-    ensures { λ r. ⌜ Written (now (out .entry)) at (floatFields (x ∷ [])) (now (out .exit)) r × (r ≡ at + 9) ⌝ }
+    requires { ⌜ at + floatSize ≤ length (now out) ⌝ }
+    ensures { λ r. ⌜ Written (now (out .entry)) at (floatFields (x ∷ [])) (now (out .exit)) r × (r ≡ at + floatSize) ⌝ }
 {
-    put_field(out, at, 16, 8, bits(x))
+    put_field(out, at, 16, FLOAT_DIGITS, bits(x))
 }
 
 pub fn put_floats(out: &mut [u8], at: usize, floats: &[f32]) -> usize
-    requires { ⌜ at + 9 * length (now floats) ≤ length (now out) ⌝ }
-    ensures { λ r. ⌜ Written (now (out .entry)) at (floatFields (now (floats .entry))) (now (out .exit)) r × (r ≡ at + 9 * length (now (floats .entry))) ⌝ }
+    requires { ⌜ at + floatSize * length (now floats) ≤ length (now out) ⌝ }
+    ensures { λ r. ⌜ Written (now (out .entry)) at (floatFields (now (floats .entry))) (now (out .exit)) r × (r ≡ at + floatSize * length (now (floats .entry))) ⌝ }
 {
     let mut behind = at;
     let mut k = 0;
@@ -100,40 +124,40 @@ pub fn put_floats(out: &mut [u8], at: usize, floats: &[f32]) -> usize
     behind
 }
 
-pub fn put_refusal(out: &mut [u8], at: usize, number: usize, place: usize) -> usize
-    requires { ⌜ at + 50 ≤ length (now out) ⌝ }
-    ensures { λ r. ⌜ Written (now (out .entry)) at (refusedLine number place) (now (out .exit)) r × (r ≤ at + 50) ⌝ }
+pub fn put_refusal(out: &mut [u8], at: usize, refusal: Refusal) -> usize
+    requires { ⌜ at + refusalSize ≤ length (now out) ⌝ }
+    ensures { λ r. ⌜ Written (now (out .entry)) at (refusedLine (refusal .number) (refusal .place)) (now (out .exit)) r × (r ≤ at + refusalSize) ⌝ }
 {
     let behind_name = put_bytes(out, at, b"refused");
-    let behind_number = put_decimal(out, behind_name, number);
-    let behind_place = put_decimal(out, behind_number, place);
+    let behind_number = put_decimal(out, behind_name, refusal.number);
+    let behind_place = put_decimal(out, behind_number, refusal.place);
     out[behind_place] = b'\n';
     behind_place + 1
 }
 
-// Joint j's line, for the matrix that stands in the floats from 16 × j on.
-fn put_joint(out: &mut [u8], at: usize, j: usize, floats: &[f32]) -> usize
-    requires { ⌜ (j < 100) × (at + 153 ≤ length (now out)) × (16 * j + 16 ≤ length (now floats)) ⌝ }
-    ensures { λ r. ⌜ Written (now (out .entry)) at (jointLine j (take 16 (drop (16 * j) (now (floats .entry))))) (now (out .exit)) r × (r ≤ at + 153) ⌝ }
+// Joint j's line, for its matrix in an output.
+fn put_joint(out: &mut [u8], at: usize, j: usize, output: &[f32]) -> usize
+    requires { ⌜ (j < maxJoints) × (at + jointSize ≤ length (now out)) × (outputAt (j + 1) ≤ length (now output)) ⌝ }
+    ensures { λ r. ⌜ Written (now (out .entry)) at (jointLine j (matrixIn (now (output .entry)) j)) (now (out .exit)) r × (r ≤ at + jointSize) ⌝ }
 {
     let behind_name = put_bytes(out, at, b"joint");
     let behind_index = put_decimal(out, behind_name, j);
-    let from = 16 * j;
-    let end = from + 16;
-    let behind_floats = put_floats(out, behind_index, &floats[from..end]);
+    let from = MATRIX_FLOATS * j;
+    let end = from + MATRIX_FLOATS;
+    let behind_floats = put_floats(out, behind_index, &output[from..end]);
     out[behind_floats] = b'\n';
     behind_floats + 1
 }
 
-// The lines of `count` joints, each of at most 153 bytes.
-pub fn put_joints(out: &mut [u8], at: usize, count: usize, floats: &[f32]) -> usize
-    requires { ⌜ (count ≤ 64) × (at + 153 * count ≤ length (now out)) × (16 * count ≤ length (now floats)) ⌝ }
-    ensures { λ r. ⌜ Written (now (out .entry)) at (joined count (λ j. jointLine j (take 16 (drop (16 * j) (now (floats .entry)))))) (now (out .exit)) r × (r ≤ at + 153 * count) ⌝ }
+// The lines of the first `count` joints.
+pub fn put_joints(out: &mut [u8], at: usize, count: usize, output: &[f32]) -> usize
+    requires { ⌜ (count ≤ maxJoints) × (at + jointSize * count ≤ length (now out)) × (outputAt count ≤ length (now output)) ⌝ }
+    ensures { λ r. ⌜ Written (now (out .entry)) at (jointLines count (now (output .entry))) (now (out .exit)) r × (r ≤ at + jointSize * count) ⌝ }
 {
     let mut behind = at;
     let mut j = 0;
     while j < count {
-        behind = put_joint(out, behind, j, floats);
+        behind = put_joint(out, behind, j, output);
         j += 1;
     }
     behind

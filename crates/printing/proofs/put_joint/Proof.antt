@@ -1,25 +1,31 @@
 -- `printing::put_joint` meets its contract: a name, a decimal, floats and LF, each behind the other. Assumes nothing.
 use borrow.Author.Needs.{needs}
-use Prim.Native.Nat.{_+_, _*_, _-_, _≤_}
+use Prim.Native.Nat.{ℕ, _+_, _-_, _≤_}
 use mathlib.Core.Path.{_≡_}
 use native.Mathlib.Omega.{arith}
 use lib.ListN.{length, take, drop, length-drop}
 use lib.Seq.{length-take-le}
+use Rattle.model.specs.Plan.{outputAt}
 use Rattle.model.specs.Text.{name}
+use Rattle.printing.specs.Sizes.{matrixFloats, indexDigits, indexSize, jointSize}
 use Rattle.printing.proofs.Laws.{short-decimal, length-written, joint-written}
 use Rattle.printing.proofs.put_joint.Statement.{statement}
 use Rattle.printing.proofs.put_joint.Tie as tie
 
--- an index below 100 has two digits, and 16 floats are lent
+-- how many floats are lent
+lent : (j : ℕ) → outputAt j + matrixFloats - outputAt j ≡ matrixFloats
+lent j = omega arith
+
+-- an index has few digits, and a matrix is lent
 known : (c : tie.After-put-decimal)
     → let a = c .before .before .before .before .before .before .before .before .before .args in
-    (c .put-decimal .result ≤ a .at + 8) × (a .at + 153 ≤ length (a .out .now)) × (length (take (16 * a .j + 16 - 16 * a .j) (drop (16 * a .j) (a .floats .now))) ≡ 16)
+    (c .put-decimal .result ≤ a .at + 5 + indexSize) × (a .at + jointSize ≤ length (a .out .now))
+    × (length (take (outputAt (a .j) + matrixFloats - outputAt (a .j)) (drop (outputAt (a .j)) (a .output .now))) ≡ matrixFloats)
 known c =
     let a = c .before .before .before .before .before .before .before .before .before .args in
-    let e : 16 * a .j + 16 - 16 * a .j ≡ 16 = omega arith in
-    let rest = drop (16 * a .j) (a .floats .now) in
-    let lent = length-take-le 16 rest (omega (arith, length-drop (16 * a .j) (a .floats .now))) in
-    (omega (arith, short-decimal 1 (a .j) (omega arith)), omega arith, rw e lent)
+    let from = outputAt (a .j) in
+    let floats = length-take-le matrixFloats (drop from (a .output .now)) (omega (arith, length-drop from (a .output .now))) in
+    (omega (arith, short-decimal (indexDigits - 1) (a .j) (omega arith)), omega arith, rw (lent (a .j)) floats)
 
 put-floats-requires : tie.Need-put-floats-requires
 put-floats-requires c κs = omega (arith, known (c .before .before .before .before))
@@ -34,8 +40,7 @@ returns c =
     let d = f .before .before .before .before .before in
     let w = d .before .before .before .before .put-bytes .ensures in
     let j = d .before .before .before .before .before .before .before .before .before .args .j in
-    let e : 16 * j + 16 - 16 * j ≡ 16 = omega arith in
-    (joint-written j _ w (d .put-decimal .ensures .0) (rw e at (f .put-floats .ensures .0)), omega (arith, known d))
+    (joint-written j _ w (d .put-decimal .ensures .0) (rw (lent j) at (f .put-floats .ensures .0)), omega (arith, known d))
 
 pub put-joint-spec : {M : Type 1} → statement M
 put-joint-spec =

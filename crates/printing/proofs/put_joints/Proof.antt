@@ -1,19 +1,19 @@
--- `printing::put_joints` meets its contract: after j turns the first j lines are written, of at most 153 bytes each. Assumes nothing.
+-- `printing::put_joints` meets its contract: after j turns the first j lines are written, of at most jointSize bytes each. Assumes nothing.
 use Prim.Native.Nat.{_+_, _*_, _-_, _≤_}
 use mathlib.Core.Path.{_≡_}
 use native.Mathlib.Omega.{arith}
-use lib.ListN.{take, drop}
-use Rattle.model.specs.Program.{jointLine, joined}
-use Rattle.printing.specs.Written.{Written}
+use Rattle.model.specs.Program.{joined}
+use Rattle.printing.specs.Written.{Written, jointLines}
+use Rattle.printing.specs.Sizes.{jointSize}
 use Rattle.printing.proofs.Laws.{nothing-written, length-written, next-line}
 use Rattle.printing.proofs.put_joints.Statement.{statement}
 use Rattle.printing.proofs.put_joints.Tie as tie
 
 abbrev Inv-loop : tie.InvT-loop
-Inv-loop out₀ at count floats behind₀ j₀ out behind j = (j ≤ count) × (behind ≤ at + 153 * j) × Written out₀ at (joined j (λ i. jointLine i (take 16 (drop (16 * i) floats)))) out behind
+Inv-loop out₀ at count output behind₀ j₀ out behind j = (j ≤ count) × (behind ≤ at + jointSize * j) × Written out₀ at (jointLines j output) out behind
 
 abbrev μ-loop : tie.MeasureT-loop
-μ-loop out₀ at count floats behind₀ j₀ out behind j = count - j
+μ-loop out₀ at count output behind₀ j₀ out behind j = count - j
 
 loop-holds : tie.Need-loop-holds Inv-loop μ-loop
 unfolding joined

@@ -12,7 +12,7 @@ returns c =
     let n = p .before .before .before .before in
     let s = n .before .before .before .before .before .before .before .before in
     let word = n .before .before .before .before .put-bytes .ensures in
-    (refusal-written (s .args .number) (s .args .place) word (n .put-decimal .ensures .0) (p .put-decimal2 .ensures .0), omega arith)
+    (refusal-written (s .args .refusal .number) (s .args .refusal .place) word (n .put-decimal .ensures .0) (p .put-decimal2 .ensures .0), omega arith)
 
 pub put-refusal-spec : {M : Type 1} → statement M
 put-refusal-spec =
