@@ -8,9 +8,12 @@ use mathlib.Core.List.{List}
 use lib.Ieee.{Float}
 use Rattle.model.specs.declared.Transition.{Transition}
 use Rattle.model.specs.declared.Transition.the-variants.{Idle, Running}
-use Rattle.model.specs.Plan.{transitionCount}
-use Rattle.model.specs.Controller.{conditionHolds, begun, firstPassing, isEnded, stepFrom}
+use Rattle.model.specs.declared.Winner.{Winner}
+use Rattle.model.specs.declared.Winner.the-variants.{At, Nothing}
+use Rattle.model.specs.Plan.{maxParameters}
+use Rattle.model.specs.Controller.{conditionHolds, firstPassing, winner, startedBy, isEnded, stepFrom}
 use Rattle.model.specs.Laws.State.{condition-below}
+use Rattle.model.specs.Laws.Steps.{winner-had}
 use Rattle.model.specs.Laws.Passed.{few-parameters}
 use Rattle.layout.specs.declared.StateLayout.{StateLayout}
 use Rattle.layout.specs.declared.Condition.{Condition}
@@ -19,7 +22,7 @@ use Rattle.layout.proofs.Laws.{here-ok, transitions-counted}
 use Rattle.transitions.specs.Step.{StepMade}
 
 -- the parameter that a condition names is one of the player's
-pub parameter-there : {plan : List ℕ} {here : StateLayout} {t : ℕ} {n : Condition} → Passes plan → InPlan plan here → t < here .transitions → n ≡ conditionOf plan (here .state) t → n .parameter < 32
+pub parameter-there : {plan : List ℕ} {here : StateLayout} {t : ℕ} {n : Condition} → Passes plan → InPlan plan here → t < here .transitions → n ≡ conditionOf plan (here .state) t → n .parameter < maxParameters
 unfolding conditionOf
 parameter-there {plan} {here} {t} ok inside h e =
     rw e
@@ -27,21 +30,26 @@ parameter-there {plan} {here} {t} ok inside h e =
 
 -- ---- the search, at transition t of n
 
-module _ (plan : List ℕ) (numbers parameters : List Float) (instant : Float) (s n t : ℕ) where
-  pub tries : t < n → firstPassing plan numbers parameters instant s t (n - t) ≡ cond (conditionHolds plan numbers parameters s t) (begun plan numbers instant s t) (firstPassing plan numbers parameters instant s (t + 1) (n - (t + 1)))
+module _ (plan : List ℕ) (numbers parameters : List Float) (s n t : ℕ) where
+  pub tries : t < n → firstPassing plan numbers parameters s t (n - t) ≡ cond (conditionHolds plan numbers parameters s t) (At t) (firstPassing plan numbers parameters s (t + 1) (n - (t + 1)))
   unfolding firstPassing
   tries h = let e : n - t ≡ suc (n - (t + 1)) = omega arith in rw (e, add-one t)
 
-  pub none-left : n ≤ t → firstPassing plan numbers parameters instant s t (n - t) ≡ Idle
+  pub none-left : n ≤ t → firstPassing plan numbers parameters s t (n - t) ≡ Nothing
   unfolding firstPassing
   none-left h = let e : n - t ≡ 0 = omega arith in rw e
+
+-- the winner is one of the state's transitions
+pub winner-inside : (plan : List ℕ) (numbers parameters : List Float) (here : StateLayout) → InPlan plan here → (w : Winner) → w ≡ winner plan numbers parameters (here .state) → (t : ℕ) → w ≡ At t → t < here .transitions
+winner-inside plan numbers parameters here inside w e t f = rw (transitions-counted inside) (rw (← e, f) at (winner-had plan numbers parameters (here .state)))
 
 -- ---- step 1
 
 module _ (plan : List ℕ) (numbers : List Float) (s : ℕ) (x : Transition) (parameters : List Float) (instant : Float) where
-  pub searched : (found : Transition) → x ≡ Idle → found ≡ firstPassing plan numbers parameters instant s 0 (transitionCount plan s) → StepMade plan numbers s x parameters instant (record { state = s; transition = found })
+  pub searched : (w : Winner) → w ≡ winner plan numbers parameters s → (found : Transition) → found ≡ startedBy plan numbers instant s w → x ≡ Idle
+      → StepMade plan numbers s x parameters instant (record { state = s; transition = found })
   unfolding stepFrom
-  searched found e f = record { step = λ p state transition parameters. rw (e, f, ← state, ← parameters) }
+  searched w won found f e = record { step = λ p state transition parameters. rw (e, f, won, ← state, ← parameters) }
 
   module _ (start : Float) (target : ℕ) (duration : Float) (e : x ≡ Running start target duration) where
     pub ended : isEnded instant start duration ≡ true → StepMade plan numbers s x parameters instant (record { state = target; transition = Idle })

@@ -4,10 +4,12 @@ use layout::StateLayout;
 use layout::condition_at;
 use layout::numbers_at;
 use model::Transition;
+use model::Winner;
+use model::limits::MAX_PARAMETERS;
 ghost use mathlib.Core.Path.{_≡_};
-ghost use Prim.Native.Nat.{_<_};
-ghost use Rattle.model.specs.Plan.{transitionCount};
-ghost use Rattle.model.specs.Controller.{holds, conditionHolds, begun, firstPassing, isEnded};
+ghost use Prim.Native.Nat.{ℕ, _<_};
+ghost use Rattle.model.specs.declared.Winner.the-variants as Winner;
+ghost use Rattle.model.specs.Controller.{holds, conditionHolds, winner, startedBy, isEnded};
 ghost use Rattle.layout.specs.Layout.{Passes, InPlan};
 ghost use Rattle.transitions.specs.Step.{StepMade};
 
@@ -35,7 +37,7 @@ fn condition_holds(
     plan: &[u16],
     numbers: &[f32],
     here: StateLayout,
-    parameters: &[f32; 32],
+    parameters: &[f32; MAX_PARAMETERS],
     t: usize,
 ) -> bool
     requires { ⌜ Passes (now plan) × InPlan (now plan) here × (t < here .transitions) ⌝ }
@@ -47,11 +49,43 @@ fn condition_holds(
     holds(condition.operator, parameters[parameter], compared.value)
 }
 
-// Transition t of the state, started at an instant.
-fn begun(plan: &[u16], numbers: &[f32], here: StateLayout, instant: f64, t: usize) -> Transition
-    requires { ⌜ Passes (now plan) × InPlan (now plan) here × (t < here .transitions) ⌝ }
-    ensures { λ r. ⌜ r ≡ begun (now (plan .entry)) (now (numbers .entry)) instant (here .state) t ⌝ }
+// Tries the conditions in the plan's order: the first that holds wins.
+pub fn first_passing(
+    plan: &[u16],
+    numbers: &[f32],
+    here: StateLayout,
+    parameters: &[f32; MAX_PARAMETERS],
+) -> Winner
+    requires { ⌜ Passes (now plan) × InPlan (now plan) here ⌝ }
+    ensures { λ r. ⌜ r ≡ winner (now (plan .entry)) (now (numbers .entry)) (now (parameters .entry)) (here .state) ⌝ }
 {
+    let mut t = 0;
+    let won = loop {
+        if t >= here.transitions {
+            break Winner::Nothing;
+        }
+        if condition_holds(plan, numbers, here, parameters, t) {
+            break Winner::At(t);
+        }
+        t += 1;
+    };
+    won
+}
+
+// The transition that a winner starts at an instant; a player without one stays idle.
+fn started_by(
+    plan: &[u16],
+    numbers: &[f32],
+    here: StateLayout,
+    instant: f64,
+    won: Winner,
+) -> Transition
+    requires { ⌜ Passes (now plan) × InPlan (now plan) here × ((t : ℕ) → won ≡ Winner.At t → t < here .transitions) ⌝ }
+    ensures { λ r. ⌜ r ≡ startedBy (now (plan .entry)) (now (numbers .entry)) instant (here .state) won ⌝ }
+{
+    let Winner::At(t) = won else {
+        return Transition::Idle;
+    };
     let condition = condition_at(plan, here, t);
     let taken = numbers_at(plan, numbers, here, t);
     Transition::Running {
@@ -59,30 +93,6 @@ fn begun(plan: &[u16], numbers: &[f32], here: StateLayout, instant: f64, t: usiz
         target: condition.target,
         duration: taken.duration,
     }
-}
-
-// Tries the conditions in the plan's order. The first that holds starts its transition; the player stays idle if none does.
-fn first_passing(
-    plan: &[u16],
-    numbers: &[f32],
-    here: StateLayout,
-    parameters: &[f32; 32],
-    instant: f64,
-) -> Transition
-    requires { ⌜ Passes (now plan) × InPlan (now plan) here ⌝ }
-    ensures { λ r. ⌜ r ≡ firstPassing (now (plan .entry)) (now (numbers .entry)) (now (parameters .entry)) instant (here .state) 0 (transitionCount (now (plan .entry)) (here .state)) ⌝ }
-{
-    let mut t = 0;
-    let passing = loop {
-        if t >= here.transitions {
-            break Transition::Idle;
-        }
-        if condition_holds(plan, numbers, here, parameters, t) {
-            break begun(plan, numbers, here, instant, t);
-        }
-        t += 1;
-    };
-    passing
 }
 
 fn is_ended(instant: f64, start: f64, duration: f32) -> bool
@@ -97,7 +107,7 @@ pub fn step(
     numbers: &[f32],
     here: StateLayout,
     transition: Transition,
-    parameters: &[f32; 32],
+    parameters: &[f32; MAX_PARAMETERS],
     instant: f64,
 ) -> Stepped
     requires { ⌜ Passes (now plan) × InPlan (now plan) here ⌝ }
@@ -109,9 +119,10 @@ pub fn step(
         duration,
     } = transition
     else {
+        let won = first_passing(plan, numbers, here, parameters);
         return Stepped {
             state: here.state,
-            transition: first_passing(plan, numbers, here, parameters, instant),
+            transition: started_by(plan, numbers, here, instant, won),
         };
     };
     if is_ended(instant, start, duration) {

@@ -1,13 +1,14 @@
--- `transitions::condition_holds` meets its contract: the parameter is one of the player's 32. Assumes nothing.
+-- `transitions::condition_holds` meets its contract: the parameter is one of the player's. Assumes nothing.
 use borrow.Author.Needs.{needs}
 use Prim.Native.Nat.{_<_}
 use native.Mathlib.Omega.{arith}
+use Rattle.model.specs.Plan.{maxParameters}
 use Rattle.layout.specs.Layout.{conditionOf, numbersOf}
 use Rattle.transitions.proofs.Laws.{parameter-there}
 use Rattle.transitions.proofs.condition_holds.Statement.{statement}
 use Rattle.transitions.proofs.condition_holds.Tie as tie
 
-there : (c : tie.After-condition-at) → c .condition-at .result .parameter < 32
+there : (c : tie.After-condition-at) → c .condition-at .result .parameter < maxParameters
 there c = let p = c .before .before .before .pre in parameter-there (p .0) (p .1) (p .2) (c .condition-at .ensures)
 
 returns : tie.Need-returns
