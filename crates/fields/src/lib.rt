@@ -1,9 +1,10 @@
-// The field at a place of a text. The cursor that walks over a line's fields is in `lines`.
+// The name or the field at a place of a text. The cursor that walks over a line's fields is in `lines`.
 use model::FieldForm;
 ghost use mathlib.Core.Path.{_≡_};
-ghost use Prim.Native.Nat.{_+_, _-_, _<_, _≤_, _^_};
+ghost use mathlib.Core.Bool.{cond};
+ghost use Prim.Native.Nat.{ℕ, _+_, _-_, _<_, _≤_, _^_};
 ghost use lib.ListN.{length, getD, drop};
-ghost use Rattle.model.specs.Text.{digit, run, numeral, fieldIn};
+ghost use Rattle.model.specs.Text.{digit, run, numeral, fieldIn, begins};
 ghost use Rattle.model.specs.declared.FieldForm.the-variants as FieldForm;
 ghost use Rattle.fields.specs.Found.{found};
 ghost use Rattle.fields.specs.Wide.{wideBitsIn};
@@ -33,6 +34,22 @@ pub fn byte(text: &[u8], at: usize) -> u8
     ensures { λ r. ⌜ r ≡ getD (now (text .entry)) at 0 ⌝ }
 {
     if at < text.len() { text[at] } else { 0 }
+}
+
+// The length of a name if that stands at `at`, else 0; it stands inside the text.
+pub fn name_at(text: &[u8], at: usize, name: &[u8]) -> usize
+    requires { ⌜ ((i : ℕ) → i < length (now name) → 1 ≤ getD (now name) i 0) ⌝ }
+    ensures { λ r. ⌜ r ≡ cond (begins (now (name .entry)) (drop at (now (text .entry)))) (length (now (name .entry))) 0 ⌝ }
+    ensures { λ r. ⌜ r ≤ length (now (text .entry)) - at ⌝ }
+{
+    let mut i = 0;
+    while i < name.len() {
+        if byte(text, at + i) != name[i] {
+            return 0;
+        }
+        i += 1;
+    }
+    i
 }
 
 // What a letter's byte is above its value.
