@@ -1,9 +1,12 @@
 // Where the words and numbers of a plan stand. No other crate adds up places; what each one is stands in model's Plan.
+use model::limits::ROOT;
 ghost use mathlib.Core.Path.{_≡_};
-ghost use Prim.Native.Nat.{_+_, _*_, _<_, _≤_};
+ghost use mathlib.Core.List.{List};
+ghost use lib.Dec.{eqb};
+ghost use Prim.Native.Nat.{ℕ, _+_, _*_, _<_, _≤_};
 ghost use lib.ListN.{length, getD};
 ghost use lib.Ieee.{nan};
-ghost use Rattle.model.specs.Plan.{word, parentAt, parent, sampleCount, samplesBefore, clipCount, jointCount, stateCount, number, Rate};
+ghost use Rattle.model.specs.Plan.{root, word, parentAt, parent, sampleCount, samplesBefore, clipCount, jointCount, stateCount, number, Rate};
 ghost use Rattle.layout.specs.Layout.{layoutOf, stateLayout, nodeOf, conditionOf, numbersOf, Passes, InPlan};
 
 // The header's words, and the first parent.
@@ -84,6 +87,13 @@ pub fn parent(plan: &[u16], j: usize) -> usize
     ensures { λ r. ⌜ r ≡ parent (now (plan .entry)) j ⌝ }
 {
     word_there(plan, PARENTS_AT + j)
+}
+
+// Whether a word that stands for a joint's parent says that there is none.
+pub fn is_root(parent: usize) -> bool
+    ensures { λ r. ⌜ r ≡ eqb parent root ⌝ }
+{
+    parent == ROOT
 }
 
 // Of a clip that the plan has.
@@ -177,8 +187,9 @@ pub fn number(numbers: &[f32], i: usize) -> f32
     }
 }
 
-pub fn rate(plan: &[u16], numbers: &[f32], c: usize) -> f32
-    ensures { λ r. ⌜ r ≡ number (now (plan .entry)) (now (numbers .entry)) (Rate c) ⌝ }
+// Of clip c, whatever the plan: the numbers begin with the rates.
+pub fn rate(numbers: &[f32], c: usize) -> f32
+    ensures { λ r. ⌜ ((plan : List ℕ) → r ≡ number plan (now (numbers .entry)) (Rate c)) ⌝ }
 {
     number(numbers, c)
 }

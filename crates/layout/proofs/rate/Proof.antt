@@ -6,7 +6,7 @@ use Rattle.layout.proofs.rate.Tie as tie
 
 returns : tie.Need-returns
 unfolding number numberAt
-returns c = c .number .ensures
+returns c plan = c .number .ensures
 
 pub rate-spec : {M : Type 1} → statement M
 rate-spec = tie.close (tie.spec (search needs) returns)
