@@ -16,7 +16,7 @@ use Rattle.model.specs.Laws.Answers.{then-accepted, then-refused, each-next, ea
 pub stops : (a : Answer) (v w : Verdict) → tagOf the-type a ≡ 1 → values a ≡ v → values a ≡ v then w
 unfolding values
 stops Accepted v w t e = absurd (omega (arith, t))
-stops (Refused n p) v w t e = sym (then-refused v w n p 0 (sym e))
+stops (Refused r) v w t e = sym (then-refused v w _ _ 0 (sym e))
 
 pub passed : (a : Answer) (v : Verdict) → a ≡ Accepted → values a ≡ v → v ≡ accepted
 unfolding values
@@ -52,4 +52,4 @@ module _ {f : ℕ → Verdict} {n i : ℕ} (so-far : Passing f n i) where
       where
         at : (b : Answer) → tagOf the-type b ≡ 1 → values b ≡ f i → values b ≡ each n f
         at Accepted t e = absurd (omega (arith, t))
-        at (Refused m p) t e = sym (each-stops n f i m p 0 more (so-far .passes) (sym e))
+        at (Refused r) t e = sym (each-stops n f i _ _ 0 more (so-far .passes) (sym e))

@@ -11,13 +11,14 @@ use lib.ListN.{getD, length, set, length-set, replicate, getD-replicate}
 use lib.Seq.{getD-set-same, getD-set-other}
 use borrow.Author.Tests.{lt-ltb, le-ltb, eq-eqb, ne-eqb, not-true, not-false}
 use Rattle.model.specs.declared.Answer.{Answer}
-use Rattle.model.specs.declared.Answer.the-variants.{Accepted, Refused}
+use Rattle.model.specs.declared.Answer.the-variants.{Accepted}
 use Rattle.model.proofs.Answer.{the-type}
 use Rattle.model.specs.Answers.{Verdict, accepted, refused, values, _then_, each, require}
 use Rattle.model.specs.Plan.{maxClipNodes, word, clipCount, parameterCount, kindAt, kind, isClip, inputAAt, inputBAt, inputA, inputB, nodeParameter, clipNode}
 use Rattle.model.specs.Check.{wordIs, used, checkNode}
+use Rattle.model.specs.Laws.Answers.{each-stops}
 use Rattle.plan.specs.Parts.{checkClip, checkBlend, Marks}
-use Rattle.plan.proofs.Laws.{stops, goes, Passing, passing-next, passing-stops}
+use Rattle.plan.proofs.Laws.{stops, goes, Passing, passing-next}
 
 -- ---- the kind of node i of state s, which stands at `at`
 
@@ -163,6 +164,6 @@ module _ (marks : List Bool) (place : ℕ) {n k : ℕ} (so-far : Passing (λ k. 
   unfolding require values
   used-next e = passing-next so-far more Accepted (rw (not-false (getD marks k false) e)) refl
 
-  pub unused-stops : not (getD marks k false) ≡ true → values (Refused 4 place) ≡ each n (λ k. require (getD marks k false) 4 place)
-  unfolding require values
-  unused-stops e = passing-stops so-far more (Refused 4 place) (rw (not-true (getD marks k false) e)) refl
+  pub unused-stops : not (getD marks k false) ≡ true → refused 4 place 0 ≡ each n (λ k. require (getD marks k false) 4 place)
+  unfolding require
+  unused-stops e = sym (each-stops n _ k 4 place 0 more (so-far .passes) (rw (not-true (getD marks k false) e)))

@@ -5,6 +5,7 @@ use native.Mathlib.Omega.{arith}
 use mathlib.Core.Path.{_≡_, refl, sym, _∙_}
 use mathlib.Core.List.{List}
 use denote.Enum.Declared.{tagOf}
+use Rattle.model.specs.declared.Refusal.{Refusal}
 use Rattle.model.proofs.Answer.{the-type}
 use Rattle.model.proofs.Tags.{never}
 use Rattle.model.specs.Answers.{Verdict, accepted, refused, values, _then_}
@@ -52,9 +53,9 @@ pub words-refuse : (plan : List ℕ) (r : States) → tagOf the-type (r .answer)
 words-refuse plan r t e = record { answer = e; end = λ q. absurd (never (r .answer) t q); transitions = λ q. absurd (never (r .answer) t q) }
 
 module _ (plan : List ℕ) (n : ℕ) where
-  pub refused-by-words : (number place : ℕ) → refused number place 0 ≡ checkWords plan → PlanChecked plan n (Refused number place)
+  pub refused-by-words : (r : Refusal) → refused (r .number) (r .place) 0 ≡ checkWords plan → PlanChecked plan n (Refused r)
   unfolding check checkWords verdict layoutIn
-  refused-by-words number place e = record { answer = sym (then-refused _ _ _ _ _ (then-refused _ _ _ _ _ (sym e))); layout = refl }
+  refused-by-words r e = record { answer = sym (then-refused _ _ _ _ _ (then-refused _ _ _ _ _ (sym e))); layout = refl }
 
   past : (u v w : Verdict) → u ≡ accepted → u then v then w ≡ v then w
   past u v w e = rw (then-accepted u v e)

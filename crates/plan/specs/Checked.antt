@@ -12,12 +12,12 @@ use Rattle.plan.specs.declared.Checked.the-variants.{Passed, Refused}
 -- what the cases of the program's enum stand for in document 01
 unfoldable pub verdict : Checked → Verdict
 verdict (Passed layout) = accepted
-verdict (Refused number place) = refused number place 0
+verdict (Refused r) = refused (r .number) (r .place) 0
 
 -- the layout that a passed plan is answered with
 unfoldable pub layoutIn : Layout → Checked → Layout
 layoutIn none (Passed layout) = layout
-layoutIn none (Refused number place) = none
+layoutIn none (Refused r) = none
 
 -- the check of a plan for a count of numbers: the verdict and, where it passes, the plan's layout
 pub record PlanChecked (plan : List ℕ) (n : ℕ) (r : Checked) : Type 0 where

@@ -14,8 +14,10 @@ use layout::STATE_COUNT_AT;
 use layout::samples_before;
 use layout::word;
 use model::Answer;
+use model::Refusal;
 ghost use mathlib.Core.Path.{_≡_};
-ghost use Rattle.plan.specs.Checked.{PlanChecked};
+ghost use Rattle.model.specs.Answers.{values};
+ghost use Rattle.plan.specs.Checked.{PlanChecked, verdict};
 ghost use Rattle.model.specs.Plan.{stateCount, transitionsBefore, planEnd};
 ghost use Rattle.layout.specs.Layout.{layoutOf};
 ghost use Rattle.plan.specs.Parts.{WordsChecked, Worded, LengthsChecked};
@@ -26,7 +28,16 @@ pub mod words;
 
 pub enum Checked {
     Passed(Layout),
-    Refused { number: usize, place: usize },
+    Refused(Refusal),
+}
+
+pub fn answer_of(checked: Checked) -> Answer
+    ensures { λ r. ⌜ values r ≡ verdict checked ⌝ }
+{
+    match checked {
+        Checked::Passed(layout) => Answer::Accepted,
+        Checked::Refused(refusal) => Answer::Refused(refusal),
+    }
 }
 
 // Refusals 1 to 5: every word that the plan says it has.
@@ -87,18 +98,12 @@ fn check_lengths(plan: &[u16], numbers: usize, end: usize, transitions: usize) -
     ensures { λ r. ⌜ LengthsChecked (now (plan .entry)) numbers r ⌝ }
 {
     if end < plan.len() {
-        return Checked::Refused {
-            number: 6,
-            place: end,
-        };
+        return Checked::Refused(Refusal { number: 6, place: end });
     }
     let layout = laid_out(plan, transitions);
     let samples = samples_before(plan, layout.joints, layout.clips);
     if numbers != layout.poses_at + samples * layout.joints * 8 {
-        return Checked::Refused {
-            number: 7,
-            place: 0,
-        };
+        return Checked::Refused(Refusal { number: 7, place: 0 });
     }
     Checked::Passed(layout)
 }
@@ -110,10 +115,7 @@ pub fn check(plan: &[u16], numbers: usize) -> Checked
     let words = check_words(plan);
     let answer = words.answer;
     match answer {
-        Answer::Refused { number, place } => Checked::Refused {
-            number: number,
-            place: place,
-        },
+        Answer::Refused(refusal) => Checked::Refused(refusal),
         Answer::Accepted => check_lengths(plan, numbers, words.end, words.transitions),
     }
 }

@@ -4,6 +4,7 @@ use crate::words::word_is;
 use crate::words::word_up_to;
 use layout::word;
 use model::Answer;
+use model::refused;
 ghost use mathlib.Core.Path.{_≡_};
 ghost use mathlib.Core.Bool.{false, not, _&&_};
 ghost use Prim.Native.Nat.{suc, _+_, _<_, _≤_};
@@ -33,10 +34,7 @@ fn check_clip(
     ensures { λ r. ⌜ values r ≡ checkClip (now (plan .entry)) state i ⌝ }
 {
     if clip_node >= 64 {
-        return Answer::Refused {
-            number: 2,
-            place: at,
-        };
+        return refused(2, at);
     }
     let clip = word_below(plan, 4, at + 1, clips);
     let Answer::Accepted = clip else {
@@ -173,10 +171,7 @@ pub fn check_used(used: [bool; 32], n: usize, place: usize) -> Answer
     let mut k = 0;
     while k < n {
         if !used[k] {
-            return Answer::Refused {
-                number: 4,
-                place: place,
-            };
+            return refused(4, place);
         }
         k += 1;
     }

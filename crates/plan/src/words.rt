@@ -7,6 +7,7 @@ use layout::PARENTS_AT;
 use layout::STATE_COUNT_AT;
 use layout::word;
 use model::Answer;
+use model::refused;
 ghost use mathlib.Core.Path.{_≡_};
 ghost use Prim.Native.Nat.{_<_};
 ghost use lib.Dec.{leb, ltb};
@@ -19,18 +20,12 @@ pub fn word_is(plan: &[u16], number: usize, at: usize, ok: bool) -> Answer
     ensures { λ r. ⌜ values r ≡ wordIs (now (plan .entry)) number at ok ⌝ }
 {
     if plan.len() <= at {
-        return Answer::Refused {
-            number: 1,
-            place: plan.len(),
-        };
+        return refused(1, plan.len());
     }
     if ok {
         return Answer::Accepted;
     }
-    Answer::Refused {
-        number: number,
-        place: at,
-    }
+    refused(number, at)
 }
 
 fn within(low: usize, x: usize, high: usize) -> bool

@@ -18,7 +18,7 @@ returns : tie.Need-returns
 unfolding values
 returns c =
     let w = c .before .before .before .check-words .ensures in
-    refused-by-words _ _ _ _ (rw (c .before .answer .given .1) at (w .answer))
+    refused-by-words _ _ _ (rw (c .before .answer .given .1) at (w .answer))
 
 returns-2 : tie.Need-returns-2
 returns-2 c =

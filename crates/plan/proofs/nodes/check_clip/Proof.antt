@@ -1,13 +1,12 @@
 -- `plan::nodes::check_clip` meets its contract: the clip node's number, then three words. Assumes nothing.
 use borrow.Author.Needs.{needs}
-use Rattle.model.specs.Answers.{values}
+use mathlib.Core.Path.{_∙_}
 use Rattle.plan.proofs.NodeLaws.{clip-full, clip-stops, clip-stops-second, clip-ends}
 use Rattle.plan.proofs.nodes.check_clip.Statement.{statement}
 use Rattle.plan.proofs.nodes.check_clip.Tie as tie
 
 returns : tie.Need-returns
-unfolding values
-returns c = let pre = c .before .before .pre in clip-full _ _ _ _ (pre .1) _ (pre .3) (c .if1 .taken)
+returns c = let pre = c .before .before .before .pre in c .refused .ensures ∙ clip-full _ _ _ _ (pre .1) _ (pre .3) (c .before .if1 .taken)
 
 returns-2 : tie.Need-returns-2
 returns-2 c =
@@ -37,6 +36,7 @@ pub check-clip-spec : {M : Type 1} → statement M
 check-clip-spec =
     tie.close
     (tie.spec
+    (search needs)
     returns
     (search needs)
     (search needs)

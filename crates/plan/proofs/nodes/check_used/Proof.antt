@@ -1,6 +1,7 @@
 -- `plan::nodes::check_used` meets its contract. Invariant: the first k nodes are inputs. Assumes nothing.
 use borrow.Author.Needs.{needs}
 use Prim.Native.Nat.{_-_}
+use mathlib.Core.Path.{_∙_}
 use mathlib.Core.Bool.{false}
 use lib.ListN.{getD}
 use Rattle.model.specs.Answers.{require}
@@ -17,8 +18,10 @@ abbrev μ-loop : tie.MeasureT-loop
 
 returns : tie.Need-returns Inv-loop μ-loop
 returns c =
-    let a = c .before .before .before .args in
-    unused-stops (a .t1) (a .place) (c .before .before .loop .inv) (c .before .loop-test .taken) (c .if1 .taken)
+    let i = c .before in
+    let l = i .before .before in
+    let a = l .before .args in
+    c .refused .ensures ∙ unused-stops (a .t1) (a .place) (l .loop .inv) (i .before .loop-test .taken) (i .if1 .taken)
 
 loop-again : tie.Need-loop-again Inv-loop μ-loop
 loop-again c =
@@ -28,4 +31,4 @@ loop-again c =
 pub check-used-spec : {M : Type 1} → statement M
 check-used-spec =
     tie.close
-    (tie.spec Inv-loop μ-loop (λ c. passing-none _ _) (search needs) returns (search needs) (search needs) loop-again (λ c. passing-all (c .before .loop .inv) (c .loop-test .left)))
+    (tie.spec Inv-loop μ-loop (λ c. passing-none _ _) (search needs) (search needs) returns (search needs) (search needs) loop-again (λ c. passing-all (c .before .loop .inv) (c .loop-test .left)))

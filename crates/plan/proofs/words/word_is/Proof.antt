@@ -1,5 +1,7 @@
 -- `plan::words::word_is` meets its contract: the definition's two tests, in its order. Assumes nothing.
+use borrow.Author.Needs.{needs}
 use borrow.Author.Tests.{lt-ltb, le-ltb}
+use mathlib.Core.Path.{_∙_}
 use Rattle.model.specs.Answers.{values, _then_, require}
 use Rattle.model.specs.Check.{wordIs}
 use Rattle.plan.proofs.words.word_is.Statement.{statement}
@@ -7,7 +9,7 @@ use Rattle.plan.proofs.words.word_is.Tie as tie
 
 returns : tie.Need-returns
 unfolding values wordIs _then_ require
-returns c = rw (le-ltb _ _ (c .if1 .taken))
+returns c = c .refused .ensures ∙ rw (le-ltb _ _ (c .before .if1 .taken))
 
 returns-2 : tie.Need-returns-2
 unfolding values wordIs _then_ require
@@ -15,7 +17,7 @@ returns-2 c = rw (lt-ltb _ _ (c .before .if1 .left), c .if2 .taken)
 
 returns-3 : tie.Need-returns-3
 unfolding values wordIs _then_ require
-returns-3 c = rw (lt-ltb _ _ (c .before .if1 .left), c .if2 .left)
+returns-3 c = c .refused2 .ensures ∙ rw (lt-ltb _ _ (c .before .before .if1 .left), c .before .if2 .left)
 
 pub word-is-spec : {M : Type 1} → statement M
-word-is-spec = tie.close (tie.spec returns returns-2 returns-3)
+word-is-spec = tie.close (tie.spec (search needs) returns returns-2 (search needs) returns-3)
