@@ -12,7 +12,7 @@ use lib.ListN.{length, getD, drop, length-drop, drop-of-length-le}
 use lib.Seq.{drop-cons}
 use borrow.Author.Tests.{eq-eqb, ne-eqb}
 use Rattle.model.specs.Run as Run
-use Rattle.model.specs.Run.{kindOf}
+use Rattle.model.specs.declared.FrameKind.{FrameKind}
 use Rattle.model.specs.Text.{lineFeed}
 use Rattle.calls.specs.declared.Call.{Call}
 use Rattle.calls.specs.declared.Call.the-variants.{Malformed, Update, Speed, Set, Frame}
@@ -28,7 +28,7 @@ is-malformed Malformed e = refl
 is-malformed (Update d) e = cc
 is-malformed (Speed v) e = cc
 is-malformed (Set n v) e = cc
-is-malformed (Frame isPage ext n) e = cc
+is-malformed (Frame kind ext n) e = cc
 
 -- a call that is not malformed is one of the text's
 pub record Called (call : Call) : Type 0 where
@@ -41,7 +41,7 @@ called Malformed e = absurd (let z : _≡_ {A = ℕ} 0 1 = cc in omega arith)
 called (Update d) e = record { means = Run.Update d; reading = λ rest. refl }
 called (Speed v) e = record { means = Run.Speed v; reading = λ rest. refl }
 called (Set n v) e = record { means = Run.Set n v; reading = λ rest. refl }
-called (Frame isPage ext n) e = record { means = Run.Frame (kindOf isPage) ext n; reading = λ rest. refl }
+called (Frame kind ext n) e = record { means = Run.Frame kind ext n; reading = λ rest. refl }
 
 -- a line that was read: its call, kind by kind, and what is left behind it
 module _ (text : List ℕ) (r : CallAt) {c : Run.Call} {rest : List ℕ} (read : lineRead text r ≡ line c rest) where
@@ -54,7 +54,7 @@ module _ (text : List ℕ) (r : CallAt) {c : Run.Call} {rest : List ℕ} (read :
       at (Update d) e = refl
       at (Speed v) e = refl
       at (Set n v) e = refl
-      at (Frame isPage ext n) e = refl
+      at (Frame kind ext n) e = refl
 
   call-line : line (called (r .call) call-well .means) (drop (r .end) text) ≡ line c rest
   unfolding lineRead
@@ -75,7 +75,7 @@ module _ (text : List ℕ) (r : CallAt) {c : Run.Call} {rest : List ℕ} (read :
   unfolding lineRead lineOf
   call-set e = let p = rw e at read in cc
 
-  pub call-frame : {isPage : Bool} {ext : Float} {n : ℕ} → r .call ≡ Frame isPage ext n → c ≡ Run.Frame (kindOf isPage) ext n
+  pub call-frame : {kind : FrameKind} {ext : Float} {n : ℕ} → r .call ≡ Frame kind ext n → c ≡ Run.Frame kind ext n
   unfolding lineRead lineOf
   call-frame e = let p = rw e at read in cc
 

@@ -11,6 +11,8 @@ use lib.Seq.{drop-drop}
 use borrow.Author.Tests.{eq-eqb, ne-eqb, eqb-true}
 use Rattle.model.specs.declared.FieldForm.{FieldForm}
 use Rattle.model.specs.declared.FieldForm.the-variants.{Decimal, Bits}
+use Rattle.model.specs.declared.FrameKind.{FrameKind}
+use Rattle.model.specs.declared.FrameKind.the-variants.{Ordinary, Page}
 use Rattle.model.specs.Run as Run
 use Rattle.model.specs.Text as Text
 use Rattle.model.specs.Text.{front, comma, lineFeed, run, numeral, maxWord, isField, none, field, fieldIn, begins}
@@ -119,12 +121,12 @@ module _ {text : List ℕ} {at : ℕ} where
   set-named (missed p (missed u none-tested)) e = rw (u, p, e, drop-drop)
 
   pub frame-named : Misses text at (setName ∷ speedName ∷ updateName ∷ []) → begins frameName (drop at text) ≡ true
-      → frameLine Run.ordinary (drop (at + 5) text) ≡ callIn (drop at text)
+      → frameLine Ordinary (drop (at + 5) text) ≡ callIn (drop at text)
   unfolding callIn
   frame-named (missed t (missed p (missed u none-tested))) e = rw (u, p, t, e, drop-drop)
 
   pub page-named : Misses text at (frameName ∷ setName ∷ speedName ∷ updateName ∷ []) → begins pageName (drop at text) ≡ true
-      → frameLine Run.page (drop (at + 4) text) ≡ callIn (drop at text)
+      → frameLine Page (drop (at + 4) text) ≡ callIn (drop at text)
   unfolding callIn
   page-named (missed f (missed t (missed p (missed u none-tested)))) e = rw (u, p, t, f, e, drop-drop)
 
@@ -213,7 +215,7 @@ decimal-then more = then-spends decimalField more (comma-keeps (fieldIn (Decimal
 bits-then : (more : ℕ → List ℕ → CallLine) → ((v : ℕ) → Spends (more v)) → Spends (λ s. fieldThen (bitsField s) more)
 bits-then more = then-spends bitsField more (comma-keeps (fieldIn Bits) (field-keeps Bits))
 
-frame-spends : (kind : Run.FrameKind) → Spends (frameLine kind)
+frame-spends : (kind : FrameKind) → Spends (frameLine kind)
 unfolding frameLine
 frame-spends kind = wide-then _ (λ d. decimal-then _ (λ n. end-spends _))
 
@@ -223,6 +225,6 @@ call-spends =
     name-spends updateName (timeLine Run.Update) _ (wide-then _ (λ d. end-spends _))
     (name-spends speedName (timeLine Run.Speed) _ (wide-then _ (λ d. end-spends _))
     (name-spends setName setLine _ (decimal-then _ (λ n. bits-then _ (λ v. end-spends _)))
-    (name-spends frameName (frameLine Run.ordinary) _ (frame-spends Run.ordinary)
-    (name-spends pageName (frameLine Run.page) _ (frame-spends Run.page)
+    (name-spends frameName (frameLine Ordinary) _ (frame-spends Ordinary)
+    (name-spends pageName (frameLine Page) _ (frame-spends Page)
     malformed-spends))))

@@ -7,8 +7,10 @@ use lib.ListN.{length, drop}
 use lib.Dec.{eqb}
 use lib.Ieee.{Float, binary32, binary64, ofBits}
 use Rattle.model.specs.declared.FieldForm.the-variants.{Decimal, Bits}
+use Rattle.model.specs.declared.FrameKind.{FrameKind}
+use Rattle.model.specs.declared.FrameKind.the-variants.{Ordinary, Page}
 use Rattle.model.specs.Text.{front, lineFeed, comma, maxWord, Field, none, field, fieldIn, begins}
-use Rattle.model.specs.Run.{Call, Update, Speed, Set, Frame, FrameKind, ordinary, page}
+use Rattle.model.specs.Run.{Call, Update, Speed, Set, Frame}
 use Rattle.fields.specs.Wide.{wideBitsIn}
 
 -- ---- a line
@@ -70,8 +72,8 @@ callIn s =
     cond (begins updateName s) (timeLine Update (drop (length updateName) s))
     (cond (begins speedName s) (timeLine Speed (drop (length speedName) s))
     (cond (begins setName s) (setLine (drop (length setName) s))
-    (cond (begins frameName s) (frameLine ordinary (drop (length frameName) s))
-    (cond (begins pageName s) (frameLine page (drop (length pageName) s))
+    (cond (begins frameName s) (frameLine Ordinary (drop (length frameName) s))
+    (cond (begins pageName s) (frameLine Page (drop (length pageName) s))
     malformed))))
 
 -- ---- a list

@@ -7,7 +7,6 @@ use lib.Dec.{eqb}
 use lib.Ieee.{Float}
 use Rattle.model.specs.Text.{front, comma, lineFeed}
 use Rattle.model.specs.Run as Run
-use Rattle.model.specs.Run.{kindOf}
 use Rattle.calls.specs.declared.Call.{Call}
 use Rattle.calls.specs.declared.Call.the-variants.{Malformed, Update, Speed, Set, Frame}
 use Rattle.calls.specs.declared.CallAt.{CallAt}
@@ -18,7 +17,7 @@ lineOf Malformed rest = malformed
 lineOf (Update delta) rest = line (Run.Update delta) rest
 lineOf (Speed value) rest = line (Run.Speed value) rest
 lineOf (Set parameter value) rest = line (Run.Set parameter value) rest
-lineOf (Frame isPage ext length) rest = line (Run.Frame (kindOf isPage) ext length) rest
+lineOf (Frame kind ext length) rest = line (Run.Frame kind ext length) rest
 
 -- update or speed, by a flag: the program's call and the text's
 abbrev pub timedCall : Bool → Float → Call
@@ -40,7 +39,7 @@ isMalformed Malformed = true
 isMalformed (Update delta) = false
 isMalformed (Speed value) = false
 isMalformed (Set parameter value) = false
-isMalformed (Frame isPage ext length) = false
+isMalformed (Frame kind ext length) = false
 
 unfoldable pub lineRead : List ℕ → CallAt → CallLine
 lineRead text r = lineOf (r .call) (drop (r .end) text)

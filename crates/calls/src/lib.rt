@@ -6,18 +6,21 @@ use fields::read_wide_bits;
 use float::f32_from_bits;
 use float::f64_from_bits;
 use model::FieldForm;
+use model::FrameKind;
+use model::limits::MAX_WORD;
 ghost use mathlib.Core.Path.{_≡_};
 ghost use mathlib.Core.Bool.{true};
 ghost use Prim.Native.Nat.{ℕ, _-_, _≤_, _<_};
 ghost use lib.ListN.{length, drop, getD};
 ghost use Rattle.model.specs.Text.{begins};
-ghost use Rattle.model.specs.Run.{kindOf};
 ghost use Rattle.calls.specs.CallText.{timeLine, setLine, frameLine, callIn, readCalls, lineCount, callList};
 ghost use Rattle.calls.specs.Read.{timedCall, timeOf, behind, isMalformed, lineEndOf, lineRead, firstMalformed};
 ghost use Rattle.calls.specs.declared.Call.the-variants as Call;
 
-// The largest decimal.
-const MOST_WORD: u16 = 65535;
+// The longest list that programs read.
+pub const MAX_LIST: usize = 262_144;
+
+const DECIMAL_LIMIT: u16 = MAX_WORD as u16;
 
 // What a line asks for. A frame has its ext and the output's length.
 pub enum Call {
@@ -33,7 +36,7 @@ pub enum Call {
         value: f32,
     },
     Frame {
-        is_page: bool,
+        kind: FrameKind,
         ext: f64,
         length: usize,
     },
@@ -90,7 +93,7 @@ fn is_malformed(call: Call) -> bool
             value: _,
         } => false,
         Call::Frame {
-            is_page: _,
+            kind: _,
             ext: _,
             length: _,
         } => false,
@@ -145,7 +148,9 @@ fn set_line(text: &[u8], at: usize) -> CallAt
     let number = read_field(
         text,
         behind_comma(text, at),
-        FieldForm::Decimal { limit: MOST_WORD },
+        FieldForm::Decimal {
+            limit: DECIMAL_LIMIT,
+        },
     );
     let Field::Value { value, end } = number else {
         return malformed();
@@ -165,8 +170,8 @@ fn set_line(text: &[u8], at: usize) -> CallAt
     line_end(text, behind, call)
 }
 
-fn frame_line(text: &[u8], at: usize, is_page: bool) -> CallAt
-    ensures { λ r. ⌜ lineRead (now (text .entry)) r ≡ frameLine (kindOf «is_page») (drop at (now (text .entry))) ⌝ }
+fn frame_line(text: &[u8], at: usize, kind: FrameKind) -> CallAt
+    ensures { λ r. ⌜ lineRead (now (text .entry)) r ≡ frameLine kind (drop at (now (text .entry))) ⌝ }
 {
     let ext = read_wide_bits(text, behind_comma(text, at));
     let Field::Value { value, end } = ext else {
@@ -175,7 +180,9 @@ fn frame_line(text: &[u8], at: usize, is_page: bool) -> CallAt
     let length = read_field(
         text,
         behind_comma(text, end),
-        FieldForm::Decimal { limit: MOST_WORD },
+        FieldForm::Decimal {
+            limit: DECIMAL_LIMIT,
+        },
     );
     let Field::Value {
         value: count,
@@ -185,7 +192,7 @@ fn frame_line(text: &[u8], at: usize, is_page: bool) -> CallAt
         return malformed();
     };
     let call = Call::Frame {
-        is_page: is_page,
+        kind: kind,
         ext: f64_from_bits(value as u64),
         length: count,
     };
@@ -206,10 +213,10 @@ pub fn call_at(text: &[u8], at: usize) -> CallAt
         return set_line(text, at + 3);
     }
     if begins(text, at, b"frame") {
-        return frame_line(text, at + 5, false);
+        return frame_line(text, at + 5, FrameKind::Ordinary);
     }
     if begins(text, at, b"page") {
-        return frame_line(text, at + 4, true);
+        return frame_line(text, at + 4, FrameKind::Page);
     }
     malformed()
 }

@@ -7,7 +7,6 @@ use Rattle.model.specs.Text.{maxWord}
 use Rattle.model.specs.Run as Run
 use Rattle.fields.specs.Found.{found}
 use Rattle.calls.specs.CallText.{line, wideField, decimalField, frameLine}
-use Rattle.model.specs.Run.{kindOf}
 use Rattle.calls.specs.Read.{lineOf}
 use Rattle.calls.proofs.LineLaws.{wide-read, field-read, malformed-read, without, with-value, ends}
 use Rattle.calls.proofs.frame_line.Statement.{statement}
@@ -45,7 +44,7 @@ returns-3 c =
     let n = c .before .before .before in
     let l = n .before .before in
     let x = l .before .before .before in
-    let kind = kindOf (x .before .before .before .before .before .args .is-page) in
+    let kind = x .before .before .before .before .before .args .kind in
     c .line-end .ensures ∙ ends _ (λ rest. ap (λ d. line (Run.Frame kind d (n .length .given .0 .0)) rest) (c .before .f64-from-bits .ensures)) _
     ∙ with-value _ (count l) _ (n .length .given .1) ∙ with-value _ (ext (x .before .before)) _ (x .ext .given .1)
 
