@@ -2,7 +2,13 @@
 use animation::instance_at;
 use float::f64_to_bits;
 use model::Answer;
+use model::Player;
 use model::Transition;
+use model::limits::MAX_CLIP_NODES;
+use model::limits::MAX_INSTANCES;
+use model::limits::MAX_PARAMETERS;
+use printing::DECIMAL_SIZE;
+use printing::FLOAT_SIZE;
 use printing::put_bits;
 use printing::put_bytes;
 use printing::put_decimal;
@@ -14,18 +20,31 @@ ghost use Prim.Native.Nat.{_+_, _<_, _≤_};
 ghost use lib.ListN.{length};
 ghost use lib.Ieee.{binary64, toBits};
 ghost use Rattle.model.specs.Answers.{values};
+ghost use Rattle.model.specs.Plan.{maxClipNodes};
 ghost use Rattle.model.specs.Program.{joined};
 ghost use Rattle.model.specs.Clips.{instanceAt};
 ghost use Rattle.printing.specs.Written.{Written};
+ghost use Rattle.printing.specs.Sizes.{refusalSize};
 ghost use Rattle.report.specs.Report.{wideField, answerLine, transitionFields, playerLine, parametersLine, instanceLine};
+ghost use Rattle.report.specs.Sizes.{wideSize, transitionSize, playerSize, parametersSize, instanceSize, instancesSize};
+
+// Digits of a 64-bit float's bits.
+const WIDE_DIGITS: usize = 16;
+
+// How many bytes fields and lines have at the most; specs/Sizes.antt has the same for contracts.
+const WIDE_SIZE: usize = 1 + WIDE_DIGITS;
+
+const TRANSITION_SIZE: usize = 8 + WIDE_SIZE + DECIMAL_SIZE + FLOAT_SIZE;
+
+pub const PLAYER_SIZE: usize = 6 + 2 * WIDE_SIZE + DECIMAL_SIZE + TRANSITION_SIZE + 1;
 
 pub fn put_answer(out: &mut [u8], at: usize, answer: Answer) -> usize
-    requires { ⌜ at + 50 ≤ length (now out) ⌝ }
-    ensures { λ r. ⌜ Written (now (out .entry)) at (answerLine (values answer)) (now (out .exit)) r × (r ≤ at + 50) ⌝ }
+    requires { ⌜ at + refusalSize ≤ length (now out) ⌝ }
+    ensures { λ r. ⌜ Written (now (out .entry)) at (answerLine (values answer)) (now (out .exit)) r × (r ≤ at + refusalSize) ⌝ }
 {
     match answer {
         Answer::Accepted => put_bytes(out, at, b"ok\n"),
-        Answer::Refused { number, place } => put_refusal(out, at, number, place),
+        Answer::Refused(refusal) => put_refusal(out, at, refusal),
     }
 }
 
@@ -37,15 +56,15 @@ fn wide_bits(x: f64) -> usize
 
 // A comma, and the bits of x.
 fn put_wide(out: &mut [u8], at: usize, x: f64) -> usize
-    requires { ⌜ at + 17 ≤ length (now out) ⌝ }
-    ensures { λ r. ⌜ Written (now (out .entry)) at (wideField x) (now (out .exit)) r × (r ≡ at + 17) ⌝ }
+    requires { ⌜ at + wideSize ≤ length (now out) ⌝ }
+    ensures { λ r. ⌜ Written (now (out .entry)) at (wideField x) (now (out .exit)) r × (r ≡ at + wideSize) ⌝ }
 {
-    put_field(out, at, 16, 16, wide_bits(x))
+    put_field(out, at, 16, WIDE_DIGITS, wide_bits(x))
 }
 
 fn put_transition(out: &mut [u8], at: usize, transition: Transition) -> usize
-    requires { ⌜ at + 55 ≤ length (now out) ⌝ }
-    ensures { λ r. ⌜ Written (now (out .entry)) at (transitionFields transition) (now (out .exit)) r × (r ≤ at + 55) ⌝ }
+    requires { ⌜ at + transitionSize ≤ length (now out) ⌝ }
+    ensures { λ r. ⌜ Written (now (out .entry)) at (transitionFields transition) (now (out .exit)) r × (r ≤ at + transitionSize) ⌝ }
 {
     match transition {
         Transition::Idle => put_bytes(out, at, b",idle"),
@@ -62,39 +81,33 @@ fn put_transition(out: &mut [u8], at: usize, transition: Transition) -> usize
     }
 }
 
-pub fn put_player(
-    out: &mut [u8],
-    at: usize,
-    clock: f64,
-    speed: f64,
-    state: usize,
-    transition: Transition,
-) -> usize
-    requires { ⌜ at + 117 ≤ length (now out) ⌝ }
-    ensures { λ r. ⌜ Written (now (out .entry)) at (playerLine clock speed state transition) (now (out .exit)) r × (r ≤ at + 117) ⌝ }
+pub fn put_player(out: &mut [u8], at: usize, player: Player) -> usize
+    requires { ⌜ at + playerSize ≤ length (now out) ⌝ }
+    ensures { λ r. ⌜ Written (now (out .entry)) at (playerLine (player .clock) (player .speed) (player .state) (player .transition)) (now (out .exit)) r × (r ≤ at + playerSize) ⌝ }
 {
+    let transition = player.transition;
     let behind_name = put_bytes(out, at, b"player");
-    let behind_clock = put_wide(out, behind_name, clock);
-    let behind_speed = put_wide(out, behind_clock, speed);
-    let behind_state = put_decimal(out, behind_speed, state);
+    let behind_clock = put_wide(out, behind_name, player.clock);
+    let behind_speed = put_wide(out, behind_clock, player.speed);
+    let behind_state = put_decimal(out, behind_speed, player.state);
     let behind_transition = put_transition(out, behind_state, transition);
     put_bytes(out, behind_transition, b"\n")
 }
 
 // ---- the rest of the player
 
-pub fn put_parameters(out: &mut [u8], at: usize, parameters: &[f32; 32]) -> usize
-    requires { ⌜ at + 299 ≤ length (now out) ⌝ }
-    ensures { λ r. ⌜ Written (now (out .entry)) at (parametersLine (now (parameters .entry))) (now (out .exit)) r × (r ≡ at + 299) ⌝ }
+pub fn put_parameters(out: &mut [u8], at: usize, parameters: &[f32; MAX_PARAMETERS]) -> usize
+    requires { ⌜ at + parametersSize ≤ length (now out) ⌝ }
+    ensures { λ r. ⌜ Written (now (out .entry)) at (parametersLine (now (parameters .entry))) (now (out .exit)) r × (r ≡ at + parametersSize) ⌝ }
 {
     let behind_name = put_bytes(out, at, b"parameters");
     let behind_floats = put_floats(out, behind_name, parameters);
     put_bytes(out, behind_floats, b"\n")
 }
 
-fn put_instance(out: &mut [u8], at: usize, n: usize, instances: &[f32; 192]) -> usize
-    requires { ⌜ (n < 64) × (at + 39 ≤ length (now out)) ⌝ }
-    ensures { λ r. ⌜ Written (now (out .entry)) at (instanceLine n (instanceAt (now (instances .entry)) n)) (now (out .exit)) r × (r ≤ at + 39) ⌝ }
+fn put_instance(out: &mut [u8], at: usize, n: usize, instances: &[f32; MAX_INSTANCES]) -> usize
+    requires { ⌜ (n < maxClipNodes) × (at + instanceSize ≤ length (now out)) ⌝ }
+    ensures { λ r. ⌜ Written (now (out .entry)) at (instanceLine n (instanceAt (now (instances .entry)) n)) (now (out .exit)) r × (r ≤ at + instanceSize) ⌝ }
 {
     let instance = instance_at(instances, n);
     let behind_name = put_bytes(out, at, b"instance");
@@ -105,14 +118,14 @@ fn put_instance(out: &mut [u8], at: usize, n: usize, instances: &[f32; 192]) -> 
     put_bytes(out, behind_offset, b"\n")
 }
 
-// All 64, in at most 2,496 bytes.
-pub fn put_instances(out: &mut [u8], at: usize, instances: &[f32; 192]) -> usize
-    requires { ⌜ at + 2496 ≤ length (now out) ⌝ }
-    ensures { λ r. ⌜ Written (now (out .entry)) at (joined 64 (λ n. instanceLine n (instanceAt (now (instances .entry)) n))) (now (out .exit)) r × (r ≤ at + 2496) ⌝ }
+// Those of all clip nodes, used or not.
+pub fn put_instances(out: &mut [u8], at: usize, instances: &[f32; MAX_INSTANCES]) -> usize
+    requires { ⌜ at + instancesSize ≤ length (now out) ⌝ }
+    ensures { λ r. ⌜ Written (now (out .entry)) at (joined maxClipNodes (λ n. instanceLine n (instanceAt (now (instances .entry)) n))) (now (out .exit)) r × (r ≤ at + instancesSize) ⌝ }
 {
     let mut behind = at;
     let mut n = 0;
-    while n < 64 {
+    while n < MAX_CLIP_NODES {
         behind = put_instance(out, behind, n, instances);
         n += 1;
     }

@@ -1,20 +1,22 @@
 -- `report::put_instance` meets its contract: a word, a decimal, three floats and LF, each behind the other. Assumes nothing.
 use borrow.Author.Needs.{needs}
-use Prim.Native.Nat.{_+_, _≤_}
+use Prim.Native.Nat.{_+_, _-_, _≤_}
 use native.Mathlib.Omega.{arith}
 use lib.ListN.{length}
+use Rattle.printing.specs.Sizes.{indexDigits, indexSize}
 use Rattle.printing.proofs.Laws.{short-decimal}
+use Rattle.report.specs.Sizes.{instanceSize}
 use Rattle.report.proofs.Laws.{instance-written}
 use Rattle.report.proofs.put_instance.Statement.{statement}
 use Rattle.report.proofs.put_instance.Tie as tie
 
--- an index below 64 has two digits
+-- an index has few digits
 after-number : (c : tie.After-put-decimal)
     → let a = c .before .before .before .before .before .before .before .before .before .args in
-    (c .put-decimal .result ≤ a .at + 11) × (a .at + 39 ≤ length (a .out .now))
+    (c .put-decimal .result ≤ a .at + 8 + indexSize) × (a .at + instanceSize ≤ length (a .out .now))
 after-number c =
     let s = c .before .before .before .before .before .before .before .before .before in
-    (omega (arith, short-decimal 1 (s .args .n) (omega arith)), omega arith)
+    (omega (arith, short-decimal (indexDigits - 1) (s .args .n) (omega arith)), omega arith)
 
 put-bits-requires-2 : tie.Need-put-bits-requires-2
 put-bits-requires-2 c κs = omega (arith, after-number (c .before .before .before .before .before .before .before))

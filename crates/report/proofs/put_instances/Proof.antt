@@ -1,20 +1,22 @@
--- `report::put_instances` meets its contract: after n turns the first n lines are written, of at most 39 bytes each. Assumes nothing.
+-- `report::put_instances` meets its contract: after n turns the first n lines are written, of at most instanceSize bytes each. Assumes nothing.
 use Prim.Native.Nat.{_+_, _*_, _-_, _≤_}
 use mathlib.Core.Path.{_≡_}
 use native.Mathlib.Omega.{arith}
+use Rattle.model.specs.Plan.{maxClipNodes}
 use Rattle.model.specs.Clips.{instanceAt}
 use Rattle.model.specs.Program.{joined}
 use Rattle.printing.specs.Written.{Written}
 use Rattle.printing.proofs.Laws.{nothing-written, length-written, next-line}
 use Rattle.report.specs.Report.{instanceLine}
+use Rattle.report.specs.Sizes.{instanceSize}
 use Rattle.report.proofs.put_instances.Statement.{statement}
 use Rattle.report.proofs.put_instances.Tie as tie
 
 abbrev Inv-loop : tie.InvT-loop
-Inv-loop out₀ at instances behind₀ n₀ out behind n = (n ≤ 64) × (behind ≤ at + 39 * n) × Written out₀ at (joined n (λ i. instanceLine i (instanceAt instances i))) out behind
+Inv-loop out₀ at instances behind₀ n₀ out behind n = (n ≤ maxClipNodes) × (behind ≤ at + instanceSize * n) × Written out₀ at (joined n (λ i. instanceLine i (instanceAt instances i))) out behind
 
 abbrev μ-loop : tie.MeasureT-loop
-μ-loop out₀ at instances behind₀ n₀ out behind n = 64 - n
+μ-loop out₀ at instances behind₀ n₀ out behind n = maxClipNodes - n
 
 loop-holds : tie.Need-loop-holds Inv-loop μ-loop
 unfolding joined
@@ -32,7 +34,7 @@ loop-again c =
 returns : tie.Need-returns Inv-loop μ-loop
 returns c =
     let l = c .before .loop in
-    let e : l .n ≡ 64 = omega arith in
+    let e : l .n ≡ maxClipNodes = omega arith in
     (rw e at (l .inv .2), omega arith)
 
 pub put-instances-spec : {M : Type 1} → statement M
