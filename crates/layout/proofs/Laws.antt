@@ -10,7 +10,8 @@ use lib.ListN.{length}
 use mir.Syntax.{w64}
 use mir.Val.{Fits}
 use Rattle.model.specs.Answers.{accepted}
-use Rattle.model.specs.Plan.{word, jointCount, clipCount, stateCount, sampleCountAt, afterNodes, afterTransitions, stateAt, nodeCount, kindAt, transitionCountAt, transitionCount, conditionParameterAt, total, clipNodesBefore, transitionsBefore, numberAt, Value, Duration}
+use Rattle.model.specs.Text.{maxWord}
+use Rattle.model.specs.Plan.{maxNodes, word, jointCount, clipCount, stateCount, sampleCountAt, afterNodes, afterTransitions, stateAt, nodeCount, kindAt, transitionCountAt, transitionCount, conditionParameterAt, total, clipNodesBefore, transitionsBefore, numberAt, Value, Duration}
 use Rattle.model.specs.Check.{checkState}
 use Rattle.model.specs.Laws.State.{node-there, transition-there, transition-count-there, few-nodes, few-transitions}
 use Rattle.model.specs.Laws.Trees.{clip-nodes-divided}
@@ -61,10 +62,10 @@ module _ (plan : List ℕ) (ok : Passes plan) (s : ℕ) (below : s < stateCount 
   state-ok = state-passed plan (ok .numbers) (ok .passed) s below
 
   -- so small that nothing overflows
-  pub clips-small : clipNodesBefore plan s < 1000
+  pub clips-small : clipNodesBefore plan s ≤ maxWord
   clips-small = omega (arith, few-states plan (ok .numbers) (ok .passed), few-clip-nodes-before plan (ok .numbers) (ok .passed) s (omega arith))
 
-  pub values-small : numberAt plan (Value s 0) + 2 * transitionCount plan s < 1000
+  pub values-small : numberAt plan (Value s 0) + 2 * transitionCount plan s ≤ maxWord
   unfolding numberAt
   values-small =
       omega (arith, few-clips plan (ok .numbers) (ok .passed), few-states plan (ok .numbers) (ok .passed), few-transitions-before plan (ok .numbers) (ok .passed) s (omega arith), few-transitions plan s state-ok)
@@ -159,10 +160,7 @@ module _ {plan : List ℕ} {here : StateLayout} (inside : InPlan plan here) wher
     pub here-ok : checkState plan (here .state) ≡ accepted
     here-ok = state-ok plan ok (here .state) (inside .below)
 
-    pub clip-node-small : here .«clip_node» < 1000
-    clip-node-small = rw clips-counted (clips-small plan ok (here .state) (inside .below))
-
-    pub nodes-few : here .nodes ≤ 31
+    pub nodes-few : here .nodes ≤ maxNodes
     nodes-few = rw nodes-counted (few-nodes plan (here .state) here-ok)
 
     pub node-words : (i : ℕ) → i < here .nodes → Words plan (here .«nodes_at») 4 i
@@ -171,7 +169,7 @@ module _ {plan : List ℕ} {here : StateLayout} (inside : InPlan plan here) wher
     pub condition-words : (t : ℕ) → t < here .transitions → Words plan (here .«transitions_at») 3 t
     condition-words t h = record { whole = omega (arith, condition-found t, transition-there plan (here .state) here-ok t (omega (arith, transitions-counted))) }
 
-    pub value-read : (t : ℕ) → t < here .transitions → here .«values_at» + 2 * t < 1000
+    pub value-read : (t : ℕ) → t < here .transitions → here .«values_at» + 2 * t ≤ maxWord
     value-read t h = omega (arith, values-small plan ok (here .state) (inside .below), value-found 0, transitions-counted)
 
 -- with these `search` finds that the words of a node or a transition are there

@@ -44,3 +44,10 @@ pub record Passes (plan : List ℕ) : Type 0 where
 pub record InPlan (plan : List ℕ) (here : StateLayout) : Type 0 where
   pub below : here .state < stateCount plan
   pub place : here ≡ stateLayout plan (here .state)
+
+-- and this is one of its transitions, of a plan that passes
+pub record HasTransition (here : StateLayout) (t : ℕ) : Type 0 where
+  pub plan : List ℕ
+  pub passes : Passes plan
+  pub place : InPlan plan here
+  pub below : t < here .transitions

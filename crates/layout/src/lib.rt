@@ -1,4 +1,10 @@
 // Where the words and numbers of a plan stand. No other crate adds up places; what each one is stands in model's Plan.
+use model::limits::MAX_CLIPS;
+use model::limits::MAX_JOINTS;
+use model::limits::MAX_NODES;
+use model::limits::MAX_STATES;
+use model::limits::MAX_TRANSITIONS;
+use model::limits::POSE_FLOATS;
 use model::limits::ROOT;
 ghost use mathlib.Core.Path.{_≡_};
 ghost use mathlib.Core.List.{List};
@@ -6,8 +12,9 @@ ghost use lib.Dec.{eqb};
 ghost use Prim.Native.Nat.{ℕ, _+_, _*_, _<_, _≤_};
 ghost use lib.ListN.{length, getD};
 ghost use lib.Ieee.{nan};
-ghost use Rattle.model.specs.Plan.{root, word, parentAt, parent, sampleCount, samplesBefore, clipCount, jointCount, stateCount, number, Rate};
-ghost use Rattle.layout.specs.Layout.{layoutOf, stateLayout, nodeOf, conditionOf, numbersOf, Passes, InPlan};
+ghost use Rattle.model.specs.Text.{maxWord};
+ghost use Rattle.model.specs.Plan.{maxJoints, maxClips, maxSamples, root, word, parentAt, parent, sampleCount, samplesBefore, clipCount, jointCount, stateCount, number, Rate};
+ghost use Rattle.layout.specs.Layout.{layoutOf, stateLayout, nodeOf, conditionOf, numbersOf, Passes, InPlan, HasTransition};
 
 // The header's words, and the first parent.
 pub const JOINT_COUNT_AT: usize = 0;
@@ -21,6 +28,19 @@ pub const STATE_COUNT_AT: usize = 3;
 pub const INITIAL_STATE_AT: usize = 4;
 
 pub const PARENTS_AT: usize = 5;
+
+// Of each node and each transition: words, and numbers.
+pub const NODE_WORDS: usize = 4;
+
+pub const TRANSITION_WORDS: usize = 3;
+
+pub const TRANSITION_NUMBERS: usize = 2;
+
+// Of the longest plan that can pass. A state has two counts before its nodes and its transitions.
+pub const MAX_PLAN: usize = PARENTS_AT
+    + MAX_JOINTS
+    + MAX_CLIPS
+    + MAX_STATES * (2 + NODE_WORDS * MAX_NODES + TRANSITION_WORDS * MAX_TRANSITIONS);
 
 // What the check finds in a plan that passes.
 pub struct Layout {
@@ -68,7 +88,7 @@ pub struct TransitionNumbers {
 
 // A word, 0 past the end.
 pub fn word(plan: &[u16], i: usize) -> usize
-    ensures { λ r. ⌜ (r ≡ word (now (plan .entry)) i) × (r < 65536) ⌝ }
+    ensures { λ r. ⌜ (r ≡ word (now (plan .entry)) i) × (r ≤ maxWord) ⌝ }
 {
     if i < plan.len() { plan[i] as usize } else { 0 }
 }
@@ -76,7 +96,7 @@ pub fn word(plan: &[u16], i: usize) -> usize
 // A word that is there, read without a test.
 fn word_there(plan: &[u16], at: usize) -> usize
     requires { ⌜ at < length (now plan) ⌝ }
-    ensures { λ r. ⌜ (r ≡ word (now (plan .entry)) at) × (r < 65536) ⌝ }
+    ensures { λ r. ⌜ (r ≡ word (now (plan .entry)) at) × (r ≤ maxWord) ⌝ }
 {
     plan[at] as usize
 }
@@ -106,8 +126,8 @@ pub fn sample_count(plan: &[u16], layout: Layout, c: usize) -> usize
 
 // How many samples the clips before c have. The check asks too, before it knows that the plan passes.
 pub fn samples_before(plan: &[u16], joints: usize, c: usize) -> usize
-    requires { ⌜ (joints ≡ jointCount (now plan)) × (joints < 65536) × (c < 65536) ⌝ }
-    ensures { λ r. ⌜ (r ≡ samplesBefore (now (plan .entry)) c) × (r ≤ c * 65536) ⌝ }
+    requires { ⌜ (joints ≡ jointCount (now plan)) × (joints ≤ maxWord) × (c ≤ maxWord) ⌝ }
+    ensures { λ r. ⌜ (r ≡ samplesBefore (now (plan .entry)) c) × (r ≤ c * maxWord) ⌝ }
 {
     let mut sum = 0;
     let mut k = 0;
@@ -129,15 +149,15 @@ pub fn state_layout(plan: &[u16], layout: Layout, state: usize) -> StateLayout
     let mut s = 0;
     while s < state {
         let nodes = word_there(plan, at);
-        let transitions_at = at + 1 + 4 * nodes;
+        let transitions_at = at + 1 + NODE_WORDS * nodes;
         let transitions = word_there(plan, transitions_at);
         clip_node += (nodes + 1) / 2;
-        values_at += 2 * transitions;
-        at = transitions_at + 1 + 3 * transitions;
+        values_at += TRANSITION_NUMBERS * transitions;
+        at = transitions_at + 1 + TRANSITION_WORDS * transitions;
         s += 1;
     }
     let nodes = word_there(plan, at);
-    let transitions_at = at + 1 + 4 * nodes;
+    let transitions_at = at + 1 + NODE_WORDS * nodes;
     StateLayout {
         state: state,
         nodes_at: at + 1,
@@ -154,7 +174,7 @@ pub fn node_at(plan: &[u16], here: StateLayout, i: usize) -> Node
     requires { ⌜ Passes (now plan) × InPlan (now plan) here × (i < here .nodes) ⌝ }
     ensures { λ r. ⌜ r ≡ nodeOf (now (plan .entry)) (here .state) i ⌝ }
 {
-    let at = here.nodes_at + 4 * i;
+    let at = here.nodes_at + NODE_WORDS * i;
     Node {
         kind: word_there(plan, at),
         a: word_there(plan, at + 1),
@@ -168,7 +188,7 @@ pub fn condition_at(plan: &[u16], here: StateLayout, t: usize) -> Condition
     requires { ⌜ Passes (now plan) × InPlan (now plan) here × (t < here .transitions) ⌝ }
     ensures { λ r. ⌜ r ≡ conditionOf (now (plan .entry)) (here .state) t ⌝ }
 {
-    let at = here.transitions_at + 3 * t;
+    let at = here.transitions_at + TRANSITION_WORDS * t;
     Condition {
         parameter: word_there(plan, at),
         operator: word_there(plan, at + 1),
@@ -195,11 +215,11 @@ pub fn rate(numbers: &[f32], c: usize) -> f32
 }
 
 // Of a transition that the state has.
-pub fn numbers_at(plan: &[u16], numbers: &[f32], here: StateLayout, t: usize) -> TransitionNumbers
-    requires { ⌜ Passes (now plan) × InPlan (now plan) here × (t < here .transitions) ⌝ }
-    ensures { λ r. ⌜ r ≡ numbersOf (now (plan .entry)) (now (numbers .entry)) (here .state) t ⌝ }
+pub fn numbers_at(numbers: &[f32], here: StateLayout, t: usize) -> TransitionNumbers
+    requires { ⌜ HasTransition here t ⌝ }
+    ensures { λ r. ⌜ ((plan : List ℕ) → InPlan plan here → r ≡ numbersOf plan (now (numbers .entry)) (here .state) t) ⌝ }
 {
-    let at = here.values_at + 2 * t;
+    let at = here.values_at + TRANSITION_NUMBERS * t;
     TransitionNumbers {
         value: number(numbers, at),
         duration: number(numbers, at + 1),
@@ -208,8 +228,8 @@ pub fn numbers_at(plan: &[u16], numbers: &[f32], here: StateLayout, t: usize) ->
 
 // Where a sample's pose of a joint begins. The sample is counted over all clips.
 pub fn pose_at(layout: Layout, sample: usize, joint: usize) -> usize
-    requires { ⌜ (layout .joints ≤ 64) × (layout .«poses_at» < 65536) × (sample < 16777216) × (joint ≤ 64) ⌝ }
+    requires { ⌜ (layout .joints ≤ maxJoints) × (layout .«poses_at» ≤ maxWord) × (sample < maxClips * maxSamples) × (joint ≤ maxJoints) ⌝ }
     ensures { λ r. ⌜ r ≡ layout .«poses_at» + (sample * layout .joints + joint) * 8 ⌝ }
 {
-    layout.poses_at + (sample * layout.joints + joint) * 8
+    layout.poses_at + (sample * layout.joints + joint) * POSE_FLOATS
 }

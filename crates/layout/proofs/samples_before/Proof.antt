@@ -1,15 +1,16 @@
--- `layout::samples_before` meets its contract. Invariant: the sum is of the first k counts, each below 65536. Assumes nothing.
+-- `layout::samples_before` meets its contract. Invariant: the sum is of the first k counts, each a word. Assumes nothing.
 use borrow.Author.Needs.{needs}
 use Prim.Native.Nat.{_*_, _-_, _≤_}
 use mathlib.Core.Path.{_≡_, refl}
 use native.Mathlib.Numerals.{add-one}
 use native.Mathlib.Omega.{arith}
+use Rattle.model.specs.Text.{maxWord}
 use Rattle.model.specs.Plan.{total, samplesBefore, sampleCount, sampleCountAt}
 use Rattle.layout.proofs.samples_before.Statement.{statement}
 use Rattle.layout.proofs.samples_before.Tie as tie
 
 abbrev Inv-loop : tie.InvT-loop
-Inv-loop plan joints c sum₀ k₀ sum k = (sum ≡ samplesBefore plan k) × (sum ≤ k * 65536) × (k ≤ c)
+Inv-loop plan joints c sum₀ k₀ sum k = (sum ≡ samplesBefore plan k) × (sum ≤ k * maxWord) × (k ≤ c)
 
 abbrev μ-loop : tie.MeasureT-loop
 μ-loop plan joints c sum₀ k₀ sum k = c - k

@@ -5,6 +5,7 @@ use mathlib.Core.Path.{_≡_, refl, ap}
 use native.Mathlib.Nat.{div-le-self}
 use native.Mathlib.Omega.{arith}
 use lib.ListN.{length}
+use Rattle.model.specs.Text.{maxWord}
 use Rattle.model.specs.Plan.{word, stateCount, stateAt, total, clipNodesBefore, transitionsBefore, numberAt, Value}
 use Rattle.layout.specs.Layout.{layoutOf}
 use Rattle.layout.proofs.Laws.{state-ok, counts-read, clips-small, values-small, state-next, values-next, clips-next, state-found}
@@ -21,7 +22,7 @@ abbrev μ-loop : tie.MeasureT-loop
 known : (c : tie.At-loop Inv-loop μ-loop)
     → let plan = c .before .before .args .plan .now in
     let at = c .loop .at in
-    (at + 1 + 4 * word plan at < length plan) × (c .loop .values-at < 1000) × (c .loop .clip-node < 1000)
+    (at + 1 + 4 * word plan at < length plan) × (c .loop .values-at ≤ maxWord) × (c .loop .clip-node ≤ maxWord)
 known c =
     let ok = c .before .before .pre .0 in
     let below : c .loop .s < stateCount (c .before .before .args .plan .now) = omega arith in

@@ -1,4 +1,4 @@
--- `layout::word` meets its contract: past the end `getD` gives its default, and a u16 is below 65536. Assumes nothing.
+-- `layout::word` meets its contract: past the end `getD` gives its default, and a u16 is at most `maxWord`. Assumes nothing.
 use borrow.Author.Needs.{needs}
 use mathlib.Core.Path.{refl, sym}
 use native.Mathlib.Omega.{arith}
