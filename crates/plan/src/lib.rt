@@ -98,12 +98,18 @@ fn check_lengths(plan: &[u16], numbers: usize, end: usize, transitions: usize) -
     ensures { λ r. ⌜ LengthsChecked (now (plan .entry)) numbers r ⌝ }
 {
     if end < plan.len() {
-        return Checked::Refused(Refusal { number: 6, place: end });
+        return Checked::Refused(Refusal {
+            number: 6,
+            place: end,
+        });
     }
     let layout = laid_out(plan, transitions);
     let samples = samples_before(plan, layout.joints, layout.clips);
     if numbers != layout.poses_at + samples * layout.joints * 8 {
-        return Checked::Refused(Refusal { number: 7, place: 0 });
+        return Checked::Refused(Refusal {
+            number: 7,
+            place: 0,
+        });
     }
     Checked::Passed(layout)
 }

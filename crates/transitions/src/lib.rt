@@ -45,7 +45,7 @@ fn condition_holds(
 {
     let condition = condition_at(plan, here, t);
     let parameter = condition.parameter;
-    let compared = numbers_at(plan, numbers, here, t);
+    let compared = numbers_at(numbers, here, t);
     holds(condition.operator, parameters[parameter], compared.value)
 }
 
@@ -87,7 +87,7 @@ fn started_by(
         return Transition::Idle;
     };
     let condition = condition_at(plan, here, t);
-    let taken = numbers_at(plan, numbers, here, t);
+    let taken = numbers_at(numbers, here, t);
     Transition::Running {
         start: instant,
         target: condition.target,

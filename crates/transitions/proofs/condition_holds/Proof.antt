@@ -15,14 +15,15 @@ returns : tie.Need-returns
 unfolding conditionOf numbersOf
 returns c =
     let v = c .before .before in
-    rw (c .holds .ensures, v .numbers-at .ensures, v .before .condition-at .ensures)
+    let w = v .before in
+    rw (c .holds .ensures, v .numbers-at .ensures _ (w .before .before .before .pre .1), w .condition-at .ensures)
 
 pub condition-holds-spec : {M : Type 1} → statement M
 condition-holds-spec =
     tie.close
     (tie.spec
     (λ c κs. search needs)
-    (λ c κs. search needs)
+    (λ c κs. let p = c .before .before .before .pre in record { plan = _; passes = p .0; place = p .1; below = p .2 })
     (λ c. omega (arith, there (c .before)))
     (λ c. there (c .before))
     (λ c κs. search needs)
