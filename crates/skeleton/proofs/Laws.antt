@@ -6,7 +6,7 @@ use mathlib.Core.List.{List, [], _∷_, _++_, map, append-assoc, append-nil, map
 use native.Mathlib.Omega.{arith}
 use native.Mathlib.Numerals.{add-one}
 use native.Mathlib.Nat.{add-zero}
-use borrow.Author.Tests.{eq-eqb, ne-eqb}
+use lib.Dec.{eqb}
 use lib.Ieee.{Float}
 use lib.ListN.{length, getD, set, take, drop, length-append, length-map}
 use lib.Seq.{length-take-le, take-all, take-suc, drop-append-add, take-at, drop-at, drop-drop, sets-eq}
@@ -14,7 +14,7 @@ use Rattle.model.specs.declared.Pose.{Pose}
 use Rattle.model.specs.declared.Matrix4.{Matrix4}
 use Rattle.model.specs.Rotations.{identityMatrix, product, floats}
 use Rattle.model.specs.Pose.{toMatrix}
-use Rattle.model.specs.Plan.{jointCount, parent, isRoot, outputAt}
+use Rattle.model.specs.Plan.{root, jointCount, parent, isRoot, outputAt}
 use Rattle.model.specs.Table.{tableTo}
 use Rattle.model.specs.Skeleton.{parentMatrix, jointMatrix, jointMatrices, pageMatrix, flat}
 use Rattle.model.specs.Laws.Table.{table-length}
@@ -49,7 +49,7 @@ stored-twice l xs ys k room =
     rw (← append-assoc (take k l) xs rest) (stored-behind (take k l ++ xs) rest ys (k + length xs) n ∙ rw (drop-drop (length ys) (k + length xs) l, e, append-assoc (take k l) xs, append-assoc xs ys))
 
 -- a matrix row by row
-pub stored-rows : (m : Matrix4) (k : ℕ) (l : List Float) {l₁ l₂ l₃ l₄ : List Float} → k + 16 ≤ length l
+pub stored-rows : (m : Matrix4) (k : ℕ) (l : List Float) {l₁ l₂ l₃ l₄ : List Float} → k + outputAt 1 ≤ length l
     → l₁ ≡ stored l k (rowFloats (m .r0)) → l₂ ≡ stored l₁ (k + 4) (rowFloats (m .r1)) → l₃ ≡ stored l₂ (k + 8) (rowFloats (m .r2)) → l₄ ≡ stored l₃ (k + 12) (rowFloats (m .r3))
     → l₄ ≡ stored l k (floats m)
 unfolding floats
@@ -94,13 +94,9 @@ read-back (m ∷ ms) (suc p) rest h =
 -- ---- joints
 
 -- the code's test of the word that it read
-pub root : (plan : List ℕ) (j p : ℕ) → p ≡ parent plan j → p ≡ 255 → isRoot plan j ≡ true
+pub root-told : (plan : List ℕ) (j : ℕ) {p : ℕ} {r : Bool} → p ≡ parent plan j → r ≡ eqb p root → isRoot plan j ≡ r
 unfolding isRoot
-root plan j p e t = eq-eqb (parent plan j) 255 (sym e ∙ t)
-
-pub no-root : (plan : List ℕ) (j p : ℕ) → p ≡ parent plan j → (p ≡ 255 → ⊥) → isRoot plan j ≡ false
-unfolding isRoot
-no-root plan j p e t = ne-eqb (parent plan j) 255 (λ u. t (e ∙ u))
+root-told plan j e t = rw (t, e)
 
 cond-else : {A : Type 0} (b : Bool) (x y z : A) → (b ≡ false → y ≡ z) → cond b x y ≡ cond b x z
 cond-else true x y z h = refl
@@ -139,15 +135,15 @@ module _ (plan : List ℕ) (block : List Float) (first : ℕ) where
   pub no-lanes : (before : List Float) → GlobalPoses plan block first 0 before before
   no-lanes before = record { written = λ poseOf _ old e. rw (add-zero first) e }
 
-  pub one-lane-more : {i at : ℕ} {before output after : List Float} {pose : Pose} {base own m : Matrix4} → Passes plan → first + i < jointCount plan
+  pub one-lane-more : {i : ℕ} {before output after : List Float} {pose : Pose} {base : Matrix4} → Passes plan → first + i < jointCount plan
       → GlobalPoses plan block first i before output
-      → base ≡ parentIn plan output (first + i) → pose ≡ laneAt block i → own ≡ toMatrix pose → at ≡ outputAt (first + i) → m ≡ product base own → after ≡ stored output at (floats m)
+      → base ≡ parentIn plan output (first + i) → pose ≡ laneAt block i → after ≡ stored output (outputAt (first + i)) (floats (product base (toMatrix pose)))
       → GlobalPoses plan block first (i + 1) before after
-  one-lane-more {i} ok there done eb el ew ep em ea = record {
+  one-lane-more {i} ok there done eb el ea = record {
     written = λ poseOf lanes old e.
         let o = done .written poseOf (λ k h. lanes k (omega arith)) old e in
         let s : first + (i + 1) ≡ first + i + 1 = omega arith in
-        ea ∙ rw (ep, em, eb, ew, el, o, lanes i (omega arith), s) (joint-more plan poseOf (first + i) old (parent-earlier plan (ok .numbers) (ok .passed) (first + i) there));
+        ea ∙ rw (eb, el, o, lanes i (omega arith), s) (joint-more plan poseOf (first + i) old (parent-earlier plan (ok .numbers) (ok .passed) (first + i) there));
   }
 
 -- ---- page matrices. `Paged` of the first j is the loop's invariant: for these, what follows is the rest

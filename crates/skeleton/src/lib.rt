@@ -1,19 +1,22 @@
 // Ports skeleton.rs: the joints' global matrices, written into the caller's buffer; and page matrices.
+use lanes::BLOCK_FLOATS;
 use lanes::lane;
+use layout::is_root;
 use layout::parent;
 use math::product_row;
-use math::row_mat4_mul;
 use model::Matrix4;
 use model::Pose;
 use model::Row;
+use model::limits::MATRIX_FLOATS;
 use transform::to_matrix;
 ghost use mathlib.Core.Path.{_≡_};
 ghost use mathlib.Core.Bool.{false};
-ghost use Prim.Native.Nat.{_+_, _*_, _<_, _≤_};
+ghost use Prim.Native.Nat.{suc, _+_, _<_, _≤_};
 ghost use lib.ListN.{length, drop};
 ghost use Rattle.model.specs.Rotations.{identityMatrix, floats, product};
 ghost use Rattle.model.specs.Pose.{toMatrix};
-ghost use Rattle.model.specs.Plan.{jointCount, parentAt, parent, isRoot, outputAt};
+ghost use Rattle.model.specs.Text.{maxWord};
+ghost use Rattle.model.specs.Plan.{maxJoints, jointCount, parentAt, parent, isRoot, outputAt};
 ghost use Rattle.model.specs.Skeleton.{pageMatrix};
 ghost use Rattle.layout.specs.Layout.{Passes};
 ghost use Rattle.lanes.specs.Lanes.{blockSize, laneAt};
@@ -21,10 +24,10 @@ ghost use Rattle.skeleton.specs.Buffer.{rowFrom, matrixFrom, rowFloats, 
 
 // Where joint j's matrix begins in the output.
 pub fn output_at(j: usize) -> usize
-    requires { ⌜ j < 65536 ⌝ }
+    requires { ⌜ j ≤ maxWord ⌝ }
     ensures { λ r. ⌜ r ≡ outputAt j ⌝ }
 {
-    16 * j
+    MATRIX_FLOATS * j
 }
 
 fn identity_matrix() -> Matrix4
@@ -71,7 +74,7 @@ fn row_at(buffer: &[f32], at: usize) -> Row
 }
 
 fn matrix_at(buffer: &[f32], at: usize) -> Matrix4
-    requires { ⌜ at + 16 ≤ length (now buffer) ⌝ }
+    requires { ⌜ at + outputAt 1 ≤ length (now buffer) ⌝ }
     ensures { λ r. ⌜ r ≡ matrixFrom (drop at (now (buffer .entry))) ⌝ }
 {
     Matrix4 {
@@ -93,7 +96,7 @@ fn set_row(buffer: &mut [f32], at: usize, r: Row)
 }
 
 fn set_matrix(buffer: &mut [f32], at: usize, m: Matrix4)
-    requires { ⌜ at + 16 ≤ length (now buffer) ⌝ }
+    requires { ⌜ at + outputAt 1 ≤ length (now buffer) ⌝ }
     ensures { λ _. ⌜ now (buffer .exit) ≡ stored (now (buffer .entry)) at (floats m) ⌝ }
 {
     let r0 = m.r0;
@@ -108,33 +111,41 @@ fn set_matrix(buffer: &mut [f32], at: usize, m: Matrix4)
 
 // The parent's matrix is read back from the buffer: parents come first.
 fn parent_matrix(plan: &[u16], buffer: &[f32], j: usize) -> Matrix4
-    requires { ⌜ (j < 65536) × (parentAt j < length (now plan)) × (isRoot (now plan) j ≡ false → parent (now plan) j < j) × (outputAt j ≤ length (now buffer)) ⌝ }
+    requires { ⌜ (j ≤ maxWord) × (parentAt j < length (now plan)) × (isRoot (now plan) j ≡ false → parent (now plan) j < j) × (outputAt j ≤ length (now buffer)) ⌝ }
     ensures { λ r. ⌜ r ≡ parentIn (now (plan .entry)) (now (buffer .entry)) j ⌝ }
 {
     let p = parent(plan, j);
-    if p == 255 {
+    if is_root(p) {
         return identity_matrix();
     }
     matrix_at(buffer, output_at(p))
 }
 
-// The matrix of the first joint, which is a root. Row by row: a product of whole matrices in a second place would no longer be inlined in either.
+// Joint j's matrix: its own, from its pose, times its parent's. Row by row: a product of whole matrices is not inlined where it is called.
+fn set_joint(output: &mut [f32], j: usize, base: Matrix4, pose: Pose)
+    requires { ⌜ (j ≤ maxWord) × (outputAt (suc j) ≤ length (now output)) ⌝ }
+    ensures { λ _. ⌜ now (output .exit) ≡ stored (now (output .entry)) (outputAt j) (floats (product base (toMatrix pose))) ⌝ }
+{
+    let at = output_at(j);
+    let own = to_matrix(pose);
+    set_row(output, at, product_row(base.r0, own));
+    set_row(output, at + 4, product_row(base.r1, own));
+    set_row(output, at + 8, product_row(base.r2, own));
+    set_row(output, at + 12, product_row(base.r3, own));
+}
+
+// The matrix of the first joint, which is a root.
 pub fn calculate_root_pose(pose: Pose, output: &mut [f32])
     requires { ⌜ outputAt 1 ≤ length (now output) ⌝ }
     ensures { λ _. ⌜ now (output .exit) ≡ stored (now (output .entry)) 0 (floats (product identityMatrix (toMatrix pose))) ⌝ }
 {
-    let base = identity_matrix();
-    let own = to_matrix(pose);
-    set_row(output, 0, product_row(base.r0, own));
-    set_row(output, 4, product_row(base.r1, own));
-    set_row(output, 8, product_row(base.r2, own));
-    set_row(output, 12, product_row(base.r3, own));
+    set_joint(output, 0, identity_matrix(), pose);
 }
 
 // The matrices of the `count` joints from `first` on, whose poses are the block's lanes.
 pub fn calculate_global_poses(
     plan: &[u16],
-    block: &[f32; 256],
+    block: &[f32; BLOCK_FLOATS],
     first: usize,
     count: usize,
     output: &mut [f32],
@@ -146,8 +157,7 @@ pub fn calculate_global_poses(
     while i < count {
         let j = first + i;
         let base = parent_matrix(plan, output, j);
-        let own = to_matrix(lane(block, i));
-        set_matrix(output, output_at(j), row_mat4_mul(base, own));
+        set_joint(output, j, base, lane(block, i));
         i += 1;
     }
 }
@@ -182,7 +192,7 @@ fn page_matrix(m: Matrix4) -> Matrix4
 
 // The first `joints` matrices of the output.
 pub fn make_page_matrices(joints: usize, output: &mut [f32])
-    requires { ⌜ (joints ≤ 64) × (outputAt joints ≤ length (now output)) ⌝ }
+    requires { ⌜ (joints ≤ maxJoints) × (outputAt joints ≤ length (now output)) ⌝ }
     ensures { λ _. ⌜ Paged joints (now (output .entry)) (now (output .exit)) ⌝ }
 {
     let mut j = 0;

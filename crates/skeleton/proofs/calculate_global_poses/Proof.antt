@@ -30,28 +30,20 @@ parent-matrix-requires c κs =
     let ok = s .pre .0 .passed in
     (omega (arith, few-joints _ _ ok), parent-there _ _ ok _ (omega arith), parent-earlier _ _ ok _ (omega arith), omega arith)
 
-output-at-requires : tie.Need-output-at-requires Inv-loop μ-loop
-output-at-requires c κs =
-    let t = c .before .before .before .before .before in
+set-joint-requires : tie.Need-set-joint-requires Inv-loop μ-loop
+set-joint-requires c κs =
+    let t = c .before .before .before .before in
     let s = t .before .before .before .before in
-    omega (arith, few-joints _ _ (s .pre .0 .passed), s .pre .2, t .loop-test .taken)
-
-set-matrix-requires : tie.Need-set-matrix-requires Inv-loop μ-loop
-set-matrix-requires c κs =
-    let t = c .before .before .before .before .before .before .before in
-    omega (arith, c .before .output-at .ensures, t .loop-test .taken, t .before .loop .inv .1, t .before .before .before .before .pre .3)
+    (omega (arith, few-joints _ _ (s .pre .0 .passed), s .pre .2, t .loop-test .taken), omega (arith, t .loop-test .taken, t .before .loop .inv .1, s .pre .3))
 
 loop-again : tie.Need-loop-again Inv-loop μ-loop
 loop-again c =
     let w = c .before .before in
-    let m = w .before in
-    let a = m .before in
-    let t = a .before .before in
-    let p = t .before .before in
+    let p = w .before .before .before in
     let i = p .before .before in
     let l = i .before .loop in
     let s = i .before .before .before .before in
-    (omega arith, w .set-matrix .kept .0 ∙ l .inv .1, one-lane-more _ _ _ (s .pre .0) (omega (arith, i .loop-test .taken, s .pre .2)) (l .inv .2) (p .parent-matrix .ensures) (t .before .lane .ensures) (t .to-matrix .ensures) (a .output-at .ensures) (m .row-mat4-mul .ensures) (w .set-matrix .ensures))
+    (omega arith, w .set-joint .kept .0 ∙ l .inv .1, one-lane-more _ _ _ (s .pre .0) (omega (arith, i .loop-test .taken, s .pre .2)) (l .inv .2) (p .parent-matrix .ensures) (w .before .lane .ensures) (w .set-joint .ensures))
 
 returns : tie.Need-returns Inv-loop μ-loop
 returns c =
@@ -69,10 +61,7 @@ calculate-global-poses-spec =
     add-j
     parent-matrix-requires
     (omega arith)
-    (search needs)
-    output-at-requires
-    (search needs)
-    set-matrix-requires
+    set-joint-requires
     (omega arith)
     (omega arith)
     loop-again
