@@ -40,10 +40,6 @@ pub record WritesFloats (text plan bits : List ℕ) : Type 0 where
   pub rewritten : floatsText plan (floatsOf bits) ≡ figureText plan (map canonical bits)
   pub again : ReadsFloats (floatsText plan (floatsOf bits)) plan (floatsOf bits)
 
--- the words of a plan with the most joints, clips, states, nodes and transitions
-abbrev pub mostWords : ℕ
-mostWords = 2869
-
 -- ---- refusals
 
 -- a refusal that is about what words say: 2 to 5. The others of a start, 1, 6 and 7, are about lengths

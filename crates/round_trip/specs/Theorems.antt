@@ -7,14 +7,14 @@ use lib.ListN.{length, getD, length-map}
 use lib.Dec.{T}
 use lib.Ieee.{Float, nan, binary32, fits, toBits, ofBits}
 use Rattle.model.specs.declared.LineKind.the-variants.{Figure}
-use Rattle.model.specs.Plan.{word, jointCount, clipCount, parameterCount, stateCount}
-use Rattle.model.specs.Text.{maxWord, limits, got, readFigure, floatsOf}
+use Rattle.model.specs.Plan.{maxPlan, word, jointCount, clipCount, parameterCount, stateCount}
+use Rattle.model.specs.Text.{maxWord, forms, got, readFigure, floatsOf}
 use Rattle.model.specs.Program.{part, figureText}
 use Rattle.model.specs.Run.{startVerdict}
 use Rattle.round_trip.specs.Laws.Fields.{maxPattern}
-use Rattle.round_trip.specs.Laws.Lines.{Limited, most-getD}
+use Rattle.round_trip.specs.Laws.Lines.{Within, most-getD}
 use Rattle.round_trip.specs.Counted.{CountedPlan, Counted}
-use Rattle.round_trip.specs.RoundTrip.{Reads, Writes, floatsText, ReadsFloats, WritesFloats, mostWords, ofContent}
+use Rattle.round_trip.specs.RoundTrip.{Reads, Writes, floatsText, ReadsFloats, WritesFloats, ofContent}
 use Rattle.round_trip.specs.Laws.Parts.{holds-all, holds-whole}
 use Rattle.round_trip.specs.Laws.Patterns.{floats-same, patterns-below, floats-fit, canonical-same}
 use Rattle.round_trip.specs.Laws.Forward.{got-figure}
@@ -32,11 +32,11 @@ reads-back plan bits ok =
 
 -- a text that is accepted is the one that is written for what was read, down to the last byte, and that is a figure that a text can hold
 pub writes-back : (text ws bs rest : List ℕ) (n : ℕ) → readFigure text ≡ got ws bs rest n → Writes text ws bs rest
-unfolding limits part word jointCount clipCount parameterCount stateCount
+unfolding forms part word jointCount clipCount parameterCount stateCount
 writes-back text ws bs rest n e =
     let u = undone-figure ws bs text ws bs rest n e (holds-all ws) (holds-all bs) in
     let ended : rest ≡ [] = ends-figure text ws bs rest n e in
-    let header : Limited (limits Figure) (part ws 0 5) = u .facts .header in
+    let header : Within (forms Figure) (part ws 0 5) [] = u .facts .header in
     record {
       counted = record {
         counts = record {
@@ -86,5 +86,5 @@ content-only text ws bs rest n e =
     check-of ws (counts .planLength) (length (floatsOf bs)) (length-map bs (ofBits binary32) ∙ counts .numbersCount)
 
 -- how long a slice has to be for the plan of any text
-pub words-most : (text ws bs rest : List ℕ) (n : ℕ) → readFigure text ≡ got ws bs rest n → length ws ≤ mostWords
+pub words-most : (text ws bs rest : List ℕ) (n : ℕ) → readFigure text ≡ got ws bs rest n → length ws ≤ maxPlan
 words-most text ws bs rest n e = plan-most ws (length bs) (writes-back text ws bs rest n e .counted .counts)

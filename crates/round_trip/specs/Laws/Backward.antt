@@ -7,11 +7,11 @@ use lib.ListN.{length, getD}
 use lib.Dec.{eqb·suc-zero}
 use Rattle.model.specs.declared.LineKind.the-variants.{Figure, Clip, State, Node, Go}
 use Rattle.model.specs.Plan.{maxSamples, maxNodes, maxTransitions, word, jointCount, clipCount, stateCount, parentAt, sampleCountAt, sampleCount, stateAt, nodeCount, transitionCountAt, transitionCount, planEnd, total, transitionsBefore, posesAt, numbersLength}
-use Rattle.model.specs.Text.{limits, bitsCount, Reading, bad, got, prefixed, andThen, times, readLine, fromState, readState, readEnd, readFigure}
+use Rattle.model.specs.Text.{front, forms, wordsIn, bitsIn, Reading, bad, got, prefixed, andThen, times, readLine, fromState, readState, readEnd, readFigure}
 use Rattle.model.specs.Program.{part, lineText, stateText, figureText}
-use Rattle.round_trip.specs.Laws.Lines.{Limited, limited-length, line-written}
+use Rattle.round_trip.specs.Laws.Lines.{Within, line-written}
 use Rattle.round_trip.specs.Laws.Parts.{Holds, part-one, holds-all}
-use Rattle.round_trip.specs.Laws.Rows.{FittingAt}
+use Rattle.round_trip.specs.Laws.Rows.{WithinAt}
 use Rattle.round_trip.specs.Laws.Shape.{numbersAt, joint-row, clip-row, node-row, go-row, pose-row, header, nodes, transitions, states, state-text, figure-text, joints-same, clips-same, states-same, samples-same}
 use Rattle.round_trip.specs.Laws.Writes.{Undone, bad-got, prefixed-cases, undone-none, undone-behind, undone-prefixed, undone-then, undone-map, undone-text, undone-moved, undone-times, undone-line, undone-row, undone-lines}
 
@@ -26,12 +26,12 @@ record CountsLine (u : List ℕ) (ws bs rest : List ℕ) : Type 0 where
   text : u ≡ lineText State (nodes ∷ transitions ∷ []) [] ++ rest
 
 counts-line : (u ws bs rest : List ℕ) (n : ℕ) → readLine State u ≡ got ws bs rest n → CountsLine u ws bs rest
-unfolding limits bitsCount part
+unfolding forms wordsIn bitsIn part
 counts-line u ws bs rest n e =
     let back = line-written State u ws bs rest n e in
-    let two : ws ≡ part ws 0 2 = sym (holds-all ws) ∙ ap (part ws 0) (limited-length (maxNodes ∷ maxTransitions ∷ []) ws (back .1 .words)) in
-    let none : bs ≡ [] = sym (holds-all bs) ∙ ap (part bs 0) (limited-length [] bs (back .1 .patterns)) in
-    let limited = subst (Limited (maxNodes ∷ maxTransitions ∷ [])) two (back .1 .words) in
+    let two : ws ≡ part ws 0 2 = sym (holds-all ws) ∙ ap (part ws 0) (back .words) in
+    let none : bs ≡ [] = sym (holds-all bs) ∙ ap (part bs 0) (back .patterns) in
+    let limited : Within (forms State) (part ws 0 2) bs = rw two at (back .limited) in
     record {
       nodes = getD ws 0 0;
       transitions = getD ws 1 0;
@@ -39,7 +39,7 @@ counts-line u ws bs rest n e =
       patterns = none;
       few-nodes = limited .0;
       few-transitions = limited .1 .0;
-      text = back .0 ∙ ap (λ (v : List ℕ). lineText State v bs ++ rest) two ∙ ap (λ (v : List ℕ). lineText State (part ws 0 2) v ++ rest) none;
+      text = back .text ∙ ap (λ (v : List ℕ). lineText State v bs ++ rest) two ∙ ap (λ (v : List ℕ). lineText State (part ws 0 2) v ++ rest) none;
     }
 
 -- ---- the end
@@ -147,23 +147,23 @@ module _ (plan bits : List ℕ) where
 
   -- what the lines' limits say of the counts
   pub record Limits : Type 0 where
-    pub header : Limited (limits Figure) (part plan 0 5)
+    pub header : Within (forms Figure) (part plan 0 5) []
     pub samples : (c : ℕ) → c < clipCount plan → sampleCount plan c ≤ maxSamples
     pub states : (s : ℕ) → s < stateCount plan → Few s
 
   abbrev Fits : Type 0
-  Fits = (c : ℕ) → c < clipCount plan → FittingAt plan bits Clip (sampleCountAt plan c) c
+  Fits = (c : ℕ) → c < clipCount plan → WithinAt plan bits Clip (sampleCountAt plan c) c
 
-  limits-of : FittingAt plan bits Figure 0 0 × (Unit {0} × (Fits × (((s : ℕ) → s < stateCount plan → Few s) × (Unit {0} × Unit {0})))) → Limits
-  unfolding limits sampleCount word
+  limits-of : WithinAt plan bits Figure 0 0 × (Unit {0} × (Fits × (((s : ℕ) → s < stateCount plan → Few s) × (Unit {0} × Unit {0})))) → Limits
+  unfolding forms wordsIn bitsIn sampleCount word
   limits-of f = record {
-    header = f .0 .words;
-    samples = λ c h. subst (Limited (maxSamples ∷ [])) (part-one plan (sampleCountAt plan c)) (f .1 .1 .0 c h .words) .0;
+    header = f .0;
+    samples = λ c h. omega (arith, f .1 .1 .0 c h .0, ap front (part-one plan (sampleCountAt plan c)));
     states = f .1 .1 .1 .0;
   }
 
   pub undone-figure : (text : List ℕ) → Undone plan bits (readFigure text) text (figureText plan bits) 0 (planEnd plan) 0 (numbersLength plan) Limits
-  unfolding readFigure limits bitsCount stateAt sampleCountAt
+  unfolding readFigure forms wordsIn bitsIn stateAt sampleCountAt
   undone-figure text =
       undone-text plan bits (λ _. sym (figure-text plan bits))
       (undone-map plan bits limits-of

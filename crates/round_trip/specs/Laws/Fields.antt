@@ -3,7 +3,7 @@ use Prim.Native.Nat.{ℕ, zero, suc, _+_, _*_, _/_, _%_, _^_, _≤_, _<_}
 use native.Mathlib.Omega.{arith}
 use native.Mathlib.Decide.{ℕ-discrete, decLt}
 use native.Mathlib.Nat.{mod-eq-of-lt, div-lt-iff-lt-mul, pow-suc}
-use mathlib.Core.Path.{_≡_, refl, sym, ap, subst, _∙_}
+use mathlib.Core.Path.{_≡_, refl, sym, ap, _∙_}
 use mathlib.Core.Bool.{Bool, true, false, cond, not, _&&_, _||_}
 use mathlib.Core.List.{List, _∷_, _++_, append-assoc}
 use lib.ListN.{getD, drop}
@@ -17,6 +17,7 @@ use Rattle.model.specs.Check.{within}
 use Rattle.model.specs.Laws.Tests.{and-left, and-right, or-right, not-true}
 use Rattle.model.specs.Text.{front, digit, run, numeral, baseOf, isField, none, field, fieldIn}
 use Rattle.model.specs.Program.{glyph, digits, places}
+use Rattle.model.specs.Laws.Text.{mostOf, field-law}
 use Rattle.model.specs.Laws.Digits.{length-digits, run-digit, numeral-small}
 use Rattle.round_trip.specs.Laws.Digits.{digit-glyph, glyph-digit, run-digits, numeral-digits, digits-numeral}
 
@@ -103,11 +104,7 @@ normal-places (suc (suc j)) s there some normal h =
 -- ---- a field
 
 abbrev pub maxPattern : ℕ
-maxPattern = 4294967295
-
-abbrev pub limitOf : FieldForm → ℕ
-limitOf (Decimal limit) = limit
-limitOf Bits = maxPattern
+maxPattern = mostOf Bits
 
 width : FieldForm → ℕ → ℕ
 width (Decimal limit) v = places 19 v
@@ -121,11 +118,11 @@ base-some : (form : FieldForm) → 0 < baseOf form
 base-some (Decimal limit) = omega arith
 base-some Bits = omega arith
 
-base-few : (form : FieldForm) → baseOf form ≤ 16
+pub base-few : (form : FieldForm) → baseOf form ≤ 16
 base-few (Decimal limit) = omega arith
 base-few Bits = omega arith
 
-width-holds : (form : FieldForm) (v : ℕ) → limitOf form ≤ maxPattern → v ≤ limitOf form → v < baseOf form ^ width form v
+width-holds : (form : FieldForm) (v : ℕ) → mostOf form ≤ maxPattern → v ≤ mostOf form → v < baseOf form ^ width form v
 unfolding width
 width-holds (Decimal limit) v few h = places-hold 19 v (omega arith)
 width-holds Bits v few h = omega arith
@@ -134,7 +131,7 @@ or-true : (x : Bool) → x || true ≡ true
 or-true true = refl
 or-true false = refl
 
-is-field : (form : FieldForm) (v : ℕ) (r : List ℕ) → limitOf form ≤ maxPattern → v ≤ limitOf form → isField form (width form v) (fieldText form v ++ r) ≡ true
+is-field : (form : FieldForm) (v : ℕ) (r : List ℕ) → mostOf form ≤ maxPattern → v ≤ mostOf form → isField form (width form v) (fieldText form v ++ r) ≡ true
 unfolding isField width fieldText
 is-field (Decimal limit) v r few h =
     simp (
@@ -149,25 +146,18 @@ is-field (Decimal limit) v r few h =
     normal (no p) = rw (ne-eqb _ 48 (places-front 19 v r (omega arith) (omega arith))) (or-true (eqb (places 19 v) 1))
 is-field Bits v r few h = refl
 
-width-is : (form : FieldForm) (s : List ℕ) → limitOf form ≤ maxPattern
-    → let k = run (baseOf form) s in isField form k s ≡ true → (width form (numeral (baseOf form) k s) ≡ k) × (numeral (baseOf form) k s ≤ limitOf form)
+width-is : (form : FieldForm) (s : List ℕ) → mostOf form ≤ maxPattern
+    → let k = run (baseOf form) s in isField form k s ≡ true → numeral (baseOf form) k s ≤ mostOf form → width form (numeral (baseOf form) k s) ≡ k
 unfolding isField width
-width-is (Decimal limit) s few e =
+width-is (Decimal limit) s few e h =
     let k = run 10 s in
-    let normal = eqb k 1 || not (eqb (front s) 48) in
-    let first = and-left (leb 1 k && normal) (leb (numeral 10 k s) limit) e in
-    let small : numeral 10 k s ≤ limit = leb-true (numeral 10 k s) limit (and-right (leb 1 k && normal) (leb (numeral 10 k s) limit) e) in
-    let some : 1 ≤ k = leb-true 1 k (and-left _ _ first) in
-    (normal-places k s (omega arith) some (and-right (leb 1 k) _ first) (omega arith), small)
-width-is Bits s few e =
-    let k = run 16 s in
-    let eight : k ≡ 8 = eqb-true k 8 e in
-    let below : numeral 16 k s < 16 ^ 8 = subst (λ (n : ℕ). numeral 16 k s < 16 ^ n) eight (numeral-small 16 s k (omega arith)) in
-    (sym eight, (omega arith))
+    let first = and-left (leb 1 k && (eqb k 1 || not (eqb (front s) 48))) (leb (numeral 10 k s) limit) e in
+    normal-places k s (omega arith) (leb-true 1 k (and-left _ _ first)) (and-right (leb 1 k) _ first) (omega arith)
+width-is Bits s few e h = sym (eqb-true (run 16 s) 8 e)
 
-module _ (form : FieldForm) (few : limitOf form ≤ maxPattern) where
+module _ (form : FieldForm) (few : mostOf form ≤ maxPattern) where
   -- where no further digit follows
-  pub field-read : (v : ℕ) (r : List ℕ) → v ≤ limitOf form → run (baseOf form) r ≡ 0 → fieldIn form (fieldText form v ++ r) ≡ field v r
+  pub field-read : (v : ℕ) (r : List ℕ) → v ≤ mostOf form → run (baseOf form) r ≡ 0 → fieldIn form (fieldText form v ++ r) ≡ field v r
   unfolding fieldIn fieldText
   field-read v r h end =
       let base = baseOf form in
@@ -180,7 +170,7 @@ module _ (form : FieldForm) (few : limitOf form ≤ maxPattern) where
         drop-at (digits base k v) r k (length-digits base k v),
       )
 
-  pub field-written : (v : ℕ) (s r : List ℕ) → fieldIn form s ≡ field v r → (s ≡ fieldText form v ++ r) × (v ≤ limitOf form)
+  pub field-written : (v : ℕ) (s r : List ℕ) → fieldIn form s ≡ field v r → s ≡ fieldText form v ++ r
   unfolding fieldIn fieldText
   field-written v s r e = go (isField form k s) refl e
     where
@@ -190,12 +180,10 @@ module _ (form : FieldForm) (few : limitOf form ≤ maxPattern) where
       k : ℕ
       k = run base s
 
-      go : (x : Bool) → isField form k s ≡ x → cond x (field (numeral base k s) (drop k s)) none ≡ field v r
-          → (s ≡ digits base (width form v) v ++ r) × (v ≤ limitOf form)
-      go true t e =
+      go : (x : Bool) → isField form k s ≡ x → cond x (field (numeral base k s) (drop k s)) none ≡ field v r → s ≡ digits base (width form v) v ++ r
+      go true t e′ =
           let value : numeral base k s ≡ v = cc in
           let rest : drop k s ≡ r = cc in
-          let w = width-is form s few t in
-          let count : k ≡ width form v = sym (w .0) ∙ ap (width form) value in
-          (sym (digits-numeral base (base-some form) (base-few form) s k (omega arith)) ∙ rw (value, rest, count), rw value at (w .1))
-      go false t e = absurd (let z : _≡_ {A = ℕ} 0 1 = cc in omega arith)
+          let count : width form v ≡ k = ap (width form) (sym value) ∙ width-is form s few t (rw value (field-law form s v r e .most)) in
+          sym (digits-numeral base (base-some form) (base-few form) s k (omega arith)) ∙ rw (value, rest, count)
+      go false t e′ = absurd (let z : _≡_ {A = ℕ} 0 1 = cc in omega arith)

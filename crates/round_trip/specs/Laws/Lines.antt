@@ -1,41 +1,29 @@
 -- A line's text is read to its words and bits, and no other text is.
 use Prim.Native.Nat.{ℕ, zero, suc, _+_, _≤_, _<_}
 use native.Mathlib.Omega.{arith}
-use mathlib.Core.Path.{_≡_, refl, sym, ap, subst, _∙_}
+use mathlib.Core.Path.{_≡_, refl, sym, ap, _∙_}
 use mathlib.Core.Bool.{Bool, true, false, cond}
 use mathlib.Core.List.{List, [], _∷_, _++_, append-assoc}
-use lib.ListN.{length, getD, take, drop, replicate}
-use lib.Seq.{take-at, drop-at}
+use lib.ListN.{length, getD, drop, length-drop}
+use lib.Seq.{drop-at, drop-cons}
 use lib.Dec.{eqb}
-use borrow.Author.Tests.{eq-eqb, eqb-true}
+use borrow.Author.Tests.{eq-eqb, eqb-true, le-ltb}
 use Rattle.model.specs.declared.LineKind.{LineKind}
 use Rattle.model.specs.declared.LineKind.the-variants.{Figure, Joint, Clip, State, Node, Go, Pose}
 use Rattle.model.specs.declared.FieldForm.{FieldForm}
 use Rattle.model.specs.declared.FieldForm.the-variants.{Decimal, Bits}
 use Rattle.model.specs.Check.{within}
 use Rattle.model.specs.Laws.Tests.{and-left, and-right}
-use Rattle.model.specs.Text.{front, lineFeed, comma, digit, run, baseOf, Field, none, field, fieldIn, maxWord, name, limits, bitsCount, decimalCount, fieldCount, formOf, Line, malformed, line, withField, fieldThen, lastFields, begins, lineIn, got, fromLine, readLine}
-use Rattle.model.specs.Program.{decimalText, bitsText, decimalFields, bitsFields, part, lineText}
-use Rattle.round_trip.specs.Laws.Parts.{length-part}
-use Rattle.round_trip.specs.Laws.Fields.{maxPattern, limitOf, fieldText, field-read, field-written}
+use Rattle.model.specs.Laws.Text.{mostOf, field-law, wordCount, bitsCount, words-count, bits-count}
+use Rattle.model.specs.Text.{front, lineFeed, comma, digit, run, baseOf, Field, none, field, fieldIn, maxWord, name, forms, Line, malformed, line, withField, fieldThen, fieldsIn, begins, lineIn, wordsIn, bitsIn, got, fromLine, readLine}
+use Rattle.model.specs.Program.{decimalText, bitsText, decimalFields, bitsFields, part, fieldsText, lineText}
+use Rattle.round_trip.specs.Laws.Fields.{maxPattern, base-few, fieldText, field-read, field-written}
 
--- ---- numbers within limits, as many as these
-
-abbrev pub Limited : List ℕ → List ℕ → Type 0
-Limited [] [] = Unit {0}
-Limited [] (v ∷ vs) = ⊥
-Limited (l ∷ ls) [] = ⊥
-Limited (l ∷ ls) (v ∷ vs) = (v ≤ l) × Limited ls vs
+-- ---- numbers of at most m
 
 abbrev pub AtMost : ℕ → List ℕ → Type 0
 AtMost m [] = Unit {0}
 AtMost m (v ∷ vs) = (v ≤ m) × AtMost m vs
-
-pub limited-most : (m : ℕ) (ls vs : List ℕ) → AtMost m ls → Limited ls vs → AtMost m vs
-limited-most m [] [] most h = tt
-limited-most m [] (v ∷ vs) most h = absurd h
-limited-most m (l ∷ ls) [] most h = absurd h
-limited-most m (l ∷ ls) (v ∷ vs) most h = (omega arith, limited-most m ls vs (most .1) (h .1))
 
 pub most-append : (m : ℕ) (us vs : List ℕ) → AtMost m us → AtMost m vs → AtMost m (us ++ vs)
 most-append m [] vs h k = k
@@ -46,125 +34,105 @@ most-getD m [] i h = omega arith
 most-getD m (v ∷ vs) zero h = h .0
 most-getD m (v ∷ vs) (suc i) h = most-getD m vs i (h .1)
 
-most-limited : (m : ℕ) (vs : List ℕ) → AtMost m vs → Limited (replicate (length vs) m) vs
-most-limited m [] h = tt
-most-limited m (v ∷ vs) h = (h .0, most-limited m vs (h .1))
+most-later : (m : ℕ) (vs : List ℕ) → AtMost m vs → AtMost m (drop 1 vs)
+most-later m [] h = tt
+most-later m (v ∷ vs) h = h .1
 
--- a part of a list whose elements are all within one limit
-pub part-limited : (m : ℕ) (xs : List ℕ) → ((i : ℕ) → getD xs i 0 ≤ m) → (a n : ℕ) → Limited (replicate n m) (part xs a n)
+pub most-part : (m : ℕ) (xs : List ℕ) → ((i : ℕ) → getD xs i 0 ≤ m) → (a n : ℕ) → AtMost m (part xs a n)
 unfolding part
-part-limited m xs h a n = subst (λ (k : ℕ). Limited (replicate k m) (part xs a n)) (length-part xs a n) (most-limited m (part xs a n) (most n))
-  where
-    most : (n : ℕ) → AtMost m (part xs a n)
-    most zero = tt
-    most (suc n) = most-append m (part xs a n) (getD xs (a + n) 0 ∷ []) (most n) (h (a + n), tt)
+most-part m xs h a zero = tt
+most-part m xs h a (suc n) = most-append m (part xs a n) (getD xs (a + n) 0 ∷ []) (most-part m xs h a n) (h (a + n), tt)
 
-pub limits-most : (kind : LineKind) → AtMost maxWord (limits kind)
-unfolding limits
-limits-most Figure = omega arith
-limits-most Joint = omega arith
-limits-most Clip = omega arith
-limits-most State = omega arith
-limits-most Node = omega arith
-limits-most Go = omega arith
-limits-most Pose = tt
+-- ---- a line's words and bits, each within what its field's form allows
 
-pub replicate-most : (m n : ℕ) → AtMost m (replicate n m)
-replicate-most m zero = tt
-replicate-most m (suc n) = (omega arith, replicate-most m n)
+abbrev pub Within : List FieldForm → List ℕ → List ℕ → Type 0
+Within [] ws bs = Unit {0}
+Within (Decimal limit ∷ later) ws bs = (front ws ≤ limit) × Within later (drop 1 ws) bs
+Within (Bits ∷ later) ws bs = (front bs ≤ maxPattern) × Within later ws (drop 1 bs)
 
--- a line's words and bits
-pub record Fitting (kind : LineKind) (ws bs : List ℕ) : Type 0 where
-  pub words : Limited (limits kind) ws
-  pub patterns : Limited (replicate (bitsCount kind) maxPattern) bs
+-- of the decimals
+abbrev pub EachLimit : (ℕ → Type 0) → List FieldForm → Type 0
+EachLimit P [] = Unit {0}
+EachLimit P (Decimal limit ∷ later) = P limit × EachLimit P later
+EachLimit P (Bits ∷ later) = EachLimit P later
 
-pub limited-length : (ls vs : List ℕ) → Limited ls vs → length vs ≡ length ls
-limited-length [] [] h = refl
-limited-length [] (v ∷ vs) h = absurd h
-limited-length (l ∷ ls) [] h = absurd h
-limited-length (l ∷ ls) (v ∷ vs) h = ap suc (limited-length ls vs (h .1))
+-- where they allow any word
+pub any-within : (forms : List FieldForm) (ws bs : List ℕ) → EachLimit (λ limit. maxWord ≤ limit) forms → AtMost maxWord ws → AtMost maxPattern bs → Within forms ws bs
+any-within [] ws bs any h k = tt
+any-within (Decimal limit ∷ later) ws bs any h k = (omega (arith, most-getD maxWord ws 0 h), any-within later (drop 1 ws) bs (any .1) (most-later maxWord ws h) k)
+any-within (Bits ∷ later) ws bs any h k = (most-getD maxPattern bs 0 k, any-within later ws (drop 1 bs) any h (most-later maxPattern bs k))
 
--- ---- the fields of a line, by the limits of its decimals and the count of its bits
+abbrev Words : List FieldForm → Type 0
+Words forms = EachLimit (λ limit. limit ≤ maxWord) forms
 
-fieldBefore : FieldForm → (List ℕ → Line) → List ℕ → Line
-fieldBefore form more s = cond (eqb (front s) comma) (fieldThen (fieldIn form (drop 1 s)) more) malformed
-
-readBits : ℕ → List ℕ → Line
-readBits zero s = cond (eqb (front s) lineFeed) (line [] (drop 1 s)) malformed
-readBits (suc n) s = fieldBefore Bits (readBits n) s
-
-readFields : List ℕ → ℕ → List ℕ → Line
-readFields [] n s = readBits n s
-readFields (l ∷ ls) n s = fieldBefore (Decimal l) (readFields ls n) s
-
-all-fields : (kind : LineKind) (s : List ℕ) → lastFields kind (fieldCount kind) s ≡ readFields (limits kind) (bitsCount kind) s
-unfolding lastFields limits bitsCount formOf readFields readBits fieldBefore
-all-fields Figure s = refl
-all-fields Joint s = refl
-all-fields Clip s = refl
-all-fields State s = refl
-all-fields Node s = refl
-all-fields Go s = refl
-all-fields Pose s = refl
+words-only : (kind : LineKind) → Words (forms kind)
+unfolding forms
+words-only Figure = omega arith
+words-only Joint = omega arith
+words-only Clip = omega arith
+words-only State = omega arith
+words-only Node = omega arith
+words-only Go = omega arith
+words-only Pose = tt
 
 -- ---- written, then read
 
 -- a comma or a line's end is no digit
-ended : (form : FieldForm) (ws bs r : List ℕ) → run (baseOf form) (decimalFields ws ++ (bitsFields bs ++ lineFeed ∷ r)) ≡ 0
-unfolding run digit within decimalFields bitsFields
-ended (Decimal limit) [] [] r = refl
-ended (Decimal limit) [] (b ∷ bs) r = refl
-ended (Decimal limit) (w ∷ ws) bs r = refl
-ended Bits [] [] r = refl
-ended Bits [] (b ∷ bs) r = refl
-ended Bits (w ∷ ws) bs r = refl
+ended : (base : ℕ) → base ≤ 16 → (later : List FieldForm) (ws bs r : List ℕ) → run base (fieldsText later ws bs ++ lineFeed ∷ r) ≡ 0
+unfolding run digit within fieldsText decimalFields bitsFields
+ended base few [] ws bs r = rw (le-ltb 16 base few)
+ended base few (Decimal limit ∷ later) ws bs r = rw (le-ltb 16 base few)
+ended base few (Bits ∷ later) ws bs r = rw (le-ltb 16 base few)
 
-field-before-read : (form : FieldForm) (more : List ℕ → Line) (v : ℕ) (s vs r : List ℕ)
-    → limitOf form ≤ maxPattern → v ≤ limitOf form → run (baseOf form) s ≡ 0 → more s ≡ line vs r
-    → fieldBefore form more (comma ∷ (fieldText form v ++ s)) ≡ line (v ∷ vs) r
-unfolding fieldBefore fieldThen withField
-field-before-read form more v s vs r few h end later = rw (field-read form few v s h end, later)
+field-first : (form : FieldForm) (later : List FieldForm) (v : ℕ) (ws bs vs r : List ℕ) → mostOf form ≤ maxPattern → v ≤ mostOf form
+    → let s = fieldsText later ws bs ++ lineFeed ∷ r in fieldsIn later s ≡ line vs r → fieldsIn (form ∷ later) (comma ∷ (fieldText form v ++ s)) ≡ line (v ∷ vs) r
+unfolding fieldsIn fieldThen withField
+field-first form later v ws bs vs r few h e = rw (field-read form few v _ h (ended (baseOf form) (base-few form) later ws bs r), e)
 
-bits-read : (n : ℕ) (bs r : List ℕ) → Limited (replicate n maxPattern) bs → readBits n (bitsFields bs ++ lineFeed ∷ r) ≡ line bs r
-unfolding readBits decimalFields bitsFields bitsText fieldText
-bits-read zero [] r h = refl
-bits-read zero (b ∷ bs) r h = absurd h
-bits-read (suc n) [] r h = absurd h
-bits-read (suc n) (b ∷ bs) r h =
-    let rest = bitsFields bs ++ lineFeed ∷ r in
-    rw append-assoc (field-before-read Bits (readBits n) b rest bs r (omega arith) (h .0) (ended Bits [] bs r) (bits-read n bs r (h .1)))
+-- the values that are read
+record FieldsRead (later : List FieldForm) (ws bs r : List ℕ) : Type 0 where
+  values : List ℕ
+  reading : fieldsIn later (fieldsText later ws bs ++ lineFeed ∷ r) ≡ line values r
+  words : wordsIn later values ≡ ws
+  patterns : bitsIn later values ≡ bs
 
-fields-read : (ls ws : List ℕ) (n : ℕ) (bs r : List ℕ) → AtMost maxWord ls → Limited ls ws → Limited (replicate n maxPattern) bs
-    → readFields ls n (decimalFields ws ++ (bitsFields bs ++ lineFeed ∷ r)) ≡ line (ws ++ bs) r
-unfolding readFields decimalFields decimalText fieldText
-fields-read [] [] n bs r small h k = bits-read n bs r k
-fields-read [] (w ∷ ws) n bs r small h k = absurd h
-fields-read (l ∷ ls) [] n bs r small h k = absurd h
-fields-read (l ∷ ls) (w ∷ ws) n bs r small h k =
-    let rest = decimalFields ws ++ (bitsFields bs ++ lineFeed ∷ r) in
-    let later = fields-read ls ws n bs r (small .1) (h .1) k in
-    rw append-assoc (field-before-read (Decimal l) (readFields ls n) w rest (ws ++ bs) r (omega arith) (h .0) (ended (Decimal l) ws bs r) later)
+empty : (xs : List ℕ) → length xs ≡ 0 → [] ≡ xs
+empty [] e = refl
+empty (x ∷ xs) e = absurd (omega arith)
+
+fields-read : (later : List FieldForm) (ws bs r : List ℕ) → Words later → length ws ≡ wordCount later → length bs ≡ bitsCount later → Within later ws bs
+    → FieldsRead later ws bs r
+unfolding fieldsIn fieldsText wordsIn bitsIn decimalFields decimalText bitsFields bitsText fieldText
+fields-read [] ws bs r small w b h = record { values = []; reading = refl; words = empty ws w; patterns = empty bs b }
+fields-read (Decimal limit ∷ later) ws bs r small w b h =
+    let y = fields-read later (drop 1 ws) bs r (small .1) (omega (arith, length-drop 1 ws)) b (h .1) in
+    record {
+      values = front ws ∷ y .values;
+      reading = simp append-assoc (field-first (Decimal limit) later (front ws) (drop 1 ws) bs (y .values) r (omega arith) (h .0) (y .reading));
+      words = ap (λ (us : List ℕ). front ws ∷ us) (y .words) ∙ sym (drop-cons ws 0 0 (omega arith));
+      patterns = y .patterns;
+    }
+fields-read (Bits ∷ later) ws bs r small w b h =
+    let y = fields-read later ws (drop 1 bs) r small w (omega (arith, length-drop 1 bs)) (h .1) in
+    record {
+      values = front bs ∷ y .values;
+      reading = simp append-assoc (field-first Bits later (front bs) ws (drop 1 bs) (y .values) r (omega arith) (h .0) (y .reading));
+      words = y .words;
+      patterns = ap (λ (us : List ℕ). front bs ∷ us) (y .patterns) ∙ sym (drop-cons bs 0 0 (omega arith));
+    }
 
 begins-same : (cs r : List ℕ) → begins cs (cs ++ r) ≡ true
 unfolding begins
 begins-same [] r = refl
 begins-same (c ∷ cs) r = rw (eq-eqb c c refl) (begins-same cs r)
 
-pub line-read : (kind : LineKind) (ws bs r : List ℕ) → Fitting kind ws bs → readLine kind (lineText kind ws bs ++ r) ≡ got ws bs r 1
+pub line-read : (kind : LineKind) (ws bs r : List ℕ) → length ws ≡ wordCount (forms kind) → length bs ≡ bitsCount (forms kind) → Within (forms kind) ws bs
+    → readLine kind (lineText kind ws bs ++ r) ≡ got ws bs r 1
 unfolding readLine fromLine lineIn lineText
-line-read kind ws bs r h =
-    let tail = decimalFields ws ++ (bitsFields bs ++ lineFeed ∷ r) in
-    let count : length ws ≡ decimalCount kind = limited-length (limits kind) ws (h .words) in
-    let values : lastFields kind (fieldCount kind) tail ≡ line (ws ++ bs) r =
-    all-fields kind tail ∙ fields-read (limits kind) ws (bitsCount kind) bs r (limits-most kind) (h .words) (h .patterns) in
-    simp (
-      append-assoc,
-      begins-same (name kind) tail,
-      drop-at (name kind) tail (length (name kind)) refl,
-      values,
-      take-at ws bs (decimalCount kind) count,
-      drop-at ws bs (decimalCount kind) count,
-    )
+line-read kind ws bs r w b h =
+    let tail = fieldsText (forms kind) ws bs ++ lineFeed ∷ r in
+    let y = fields-read (forms kind) ws bs r (words-only kind) w b h in
+    simp (append-assoc, begins-same (name kind) tail, drop-at (name kind) tail (length (name kind)) refl, y .reading, y .words, y .patterns)
 
 -- ---- read, then written
 
@@ -175,82 +143,65 @@ front-is c (b ∷ s) some e = ap (λ (x : ℕ). x ∷ s) (eqb-true b c e)
 malformed-line : (vs r : List ℕ) → malformed ≡ line vs r → ⊥
 malformed-line vs r e = let z : _≡_ {A = ℕ} 0 1 = cc in omega arith
 
-record FieldFirst (form : FieldForm) (more : List ℕ → Line) (s vs r : List ℕ) : Type 0 where
-  value : ℕ
-  values : List ℕ
+record FirstWritten (form : FieldForm) (later : List FieldForm) (s vs r : List ℕ) : Type 0 where
   rest : List ℕ
-  together : vs ≡ value ∷ values
-  text : s ≡ comma ∷ (fieldText form value ++ rest)
-  small : value ≤ limitOf form
-  later : more rest ≡ line values r
+  text : s ≡ comma ∷ (fieldText form (front vs) ++ rest)
+  small : front vs ≤ mostOf form
+  others : fieldsIn later rest ≡ line (drop 1 vs) r
 
-field-before-written : (form : FieldForm) (more : List ℕ → Line) (s vs r : List ℕ) → limitOf form ≤ maxPattern
-    → fieldBefore form more s ≡ line vs r → FieldFirst form more s vs r
-unfolding fieldBefore fieldThen withField
-field-before-written form more s vs r few e = first (eqb (front s) comma) refl e
+first-written : (form : FieldForm) (later : List FieldForm) (s vs r : List ℕ) → mostOf form ≤ maxPattern → fieldsIn (form ∷ later) s ≡ line vs r
+    → FirstWritten form later s vs r
+unfolding fieldsIn fieldThen withField
+first-written form later s vs r few e = first (eqb (front s) comma) refl e
   where
-    last : (v : ℕ) (s₁ : List ℕ) → eqb (front s) comma ≡ true → fieldIn form (drop 1 s) ≡ field v s₁ → (x : Line) → more s₁ ≡ x → withField v x ≡ line vs r
-        → FieldFirst form more s vs r
+    last : (v : ℕ) (s₁ : List ℕ) → eqb (front s) comma ≡ true → fieldIn form (drop 1 s) ≡ field v s₁ → (x : Line) → fieldsIn later s₁ ≡ x → withField v x ≡ line vs r
+        → FirstWritten form later s vs r
     last v s₁ c f malformed m e = absurd (malformed-line vs r e)
     last v s₁ c f (line us r′) m e =
-        let back = field-written form few v (drop 1 s) s₁ f in
-        record {
-          value = v;
-          values = us;
+        let values : v ∷ us ≡ vs = cc in
+        rw (← values) record {
           rest = s₁;
-          together = cc;
-          text = front-is comma s (omega arith) c ∙ ap (λ (x : List ℕ). comma ∷ x) (back .0);
-          small = back .1;
-          later = cc;
+          text = front-is comma s (omega arith) c ∙ ap (λ (x : List ℕ). comma ∷ x) (field-written form few v (drop 1 s) s₁ f);
+          small = field-law form (drop 1 s) v s₁ f .most;
+          others = cc;
         }
 
-    second : (x : Field) → eqb (front s) comma ≡ true → fieldIn form (drop 1 s) ≡ x → fieldThen x more ≡ line vs r → FieldFirst form more s vs r
+    second : (x : Field) → eqb (front s) comma ≡ true → fieldIn form (drop 1 s) ≡ x → fieldThen x (fieldsIn later) ≡ line vs r → FirstWritten form later s vs r
     second none c f e = absurd (malformed-line vs r e)
-    second (field v s₁) c f e = last v s₁ c f (more s₁) refl e
+    second (field v s₁) c f e = last v s₁ c f (fieldsIn later s₁) refl e
 
-    first : (x : Bool) → eqb (front s) comma ≡ x → cond x (fieldThen (fieldIn form (drop 1 s)) more) malformed ≡ line vs r → FieldFirst form more s vs r
+    first : (x : Bool) → eqb (front s) comma ≡ x → cond x (fieldThen (fieldIn form (drop 1 s)) (fieldsIn later)) malformed ≡ line vs r → FirstWritten form later s vs r
     first true c e = second (fieldIn form (drop 1 s)) c refl e
     first false c e = absurd (malformed-line vs r e)
 
-bits-written : (n : ℕ) (s vs r : List ℕ) → readBits n s ≡ line vs r → Limited (replicate n maxPattern) vs × (s ≡ bitsFields vs ++ lineFeed ∷ r)
-unfolding readBits bitsFields bitsText fieldText
-bits-written zero s vs r e = go (eqb (front s) lineFeed) refl e
+record FieldsWritten (later : List FieldForm) (s ws bs r : List ℕ) : Type 0 where
+  text : s ≡ fieldsText later ws bs ++ lineFeed ∷ r
+  limited : Within later ws bs
+  words-most : AtMost maxWord ws
+  bits-most : AtMost maxPattern bs
+
+fields-written : (later : List FieldForm) (s vs r : List ℕ) → Words later → fieldsIn later s ≡ line vs r → FieldsWritten later s (wordsIn later vs) (bitsIn later vs) r
+unfolding fieldsIn fieldsText wordsIn bitsIn decimalFields decimalText bitsFields bitsText fieldText
+fields-written [] s vs r small e = go (eqb (front s) lineFeed) refl e
   where
-    go : (x : Bool) → eqb (front s) lineFeed ≡ x → cond x (line [] (drop 1 s)) malformed ≡ line vs r → Limited [] vs × (s ≡ bitsFields vs ++ lineFeed ∷ r)
+    go : (x : Bool) → eqb (front s) lineFeed ≡ x → cond x (line [] (drop 1 s)) malformed ≡ line vs r → FieldsWritten [] s [] [] r
     go true c e =
-        let none-left : [] ≡ vs = cc in
         let rest : drop 1 s ≡ r = cc in
-        rw (← none-left) (tt, front-is lineFeed s (omega arith) c ∙ rw rest)
+        record { text = front-is lineFeed s (omega arith) c ∙ rw rest; limited = tt; words-most = tt; bits-most = tt }
     go false c e = absurd (malformed-line vs r e)
-bits-written (suc n) s vs r e =
-    let x = field-before-written Bits (readBits n) s vs r (omega arith) e in
-    let y = bits-written n (x .rest) (x .values) r (x .later) in
-    rw (x .together) ((x .small, y .0), x .text ∙ rw (append-assoc, y .1))
-
-record Fields (ls : List ℕ) (n : ℕ) (s vs r : List ℕ) : Type 0 where
-  words : List ℕ
-  bits : List ℕ
-  together : vs ≡ words ++ bits
-  limited : Limited ls words
-  patterns : Limited (replicate n maxPattern) bits
-  text : s ≡ decimalFields words ++ (bitsFields bits ++ lineFeed ∷ r)
-
-fields-written : (ls : List ℕ) (n : ℕ) (s vs r : List ℕ) → AtMost maxWord ls → readFields ls n s ≡ line vs r → Fields ls n s vs r
-unfolding readFields decimalFields decimalText fieldText
-fields-written [] n s vs r small e =
-    let y = bits-written n s vs r e in
-    record { words = []; bits = vs; together = refl; limited = tt; patterns = y .0; text = y .1 }
-fields-written (l ∷ ls) n s vs r small e =
-    let x = field-before-written (Decimal l) (readFields ls n) s vs r (omega arith) e in
-    let y = fields-written ls n (x .rest) (x .values) r (small .1) (x .later) in
+fields-written (Decimal limit ∷ later) s vs r small e =
+    let x = first-written (Decimal limit) later s vs r (omega arith) e in
+    let y = fields-written later (x .rest) (drop 1 vs) r (small .1) (x .others) in
     record {
-      words = x .value ∷ y .words;
-      bits = y .bits;
-      together = x .together ∙ ap (λ (us : List ℕ). x .value ∷ us) (y .together);
+      text = x .text ∙ rw (y .text) (simp append-assoc);
       limited = (x .small, y .limited);
-      patterns = y .patterns;
-      text = x .text ∙ ap (λ (u : List ℕ). comma ∷ (decimalText (x .value) ++ u)) (y .text) ∙ rw append-assoc;
+      words-most = (omega (arith, x .small), y .words-most);
+      bits-most = y .bits-most;
     }
+fields-written (Bits ∷ later) s vs r small e =
+    let x = first-written Bits later s vs r (omega arith) e in
+    let y = fields-written later (x .rest) (drop 1 vs) r small (x .others) in
+    record { text = x .text ∙ rw (y .text) (simp append-assoc); limited = (x .small, y .limited); words-most = y .words-most; bits-most = (x .small, y .bits-most) }
 
 -- a name has no byte 0, which `front` gives at a text's end
 Visible : List ℕ → Type 0
@@ -273,30 +224,35 @@ begins-with [] s h e = refl
 begins-with (c ∷ cs) [] h e = absurd (omega (arith, eqb-true 0 c (and-left _ _ e)))
 begins-with (c ∷ cs) (b ∷ s) h e = rw (← (begins-with cs s (h .1) (and-right (eqb b c) _ e)), eqb-true b c (and-left _ _ e))
 
-pub line-written : (kind : LineKind) (s ws bs r : List ℕ) (n : ℕ) → readLine kind s ≡ got ws bs r n → (s ≡ lineText kind ws bs ++ r) × Fitting kind ws bs
+pub record LineWritten (kind : LineKind) (s ws bs r : List ℕ) : Type 0 where
+  pub text : s ≡ lineText kind ws bs ++ r
+  pub words : length ws ≡ wordCount (forms kind)
+  pub patterns : length bs ≡ bitsCount (forms kind)
+  pub limited : Within (forms kind) ws bs
+  pub words-most : AtMost maxWord ws
+  pub bits-most : AtMost maxPattern bs
+
+pub line-written : (kind : LineKind) (s ws bs r : List ℕ) (n : ℕ) → readLine kind s ≡ got ws bs r n → LineWritten kind s ws bs r
 unfolding readLine fromLine lineIn lineText
 line-written kind s ws bs r n e = read (lineIn kind s) refl e
   where
-    Result : Type 0
-    Result = (s ≡ lineText kind ws bs ++ r) × Fitting kind ws bs
+    named : (vs : List ℕ) (x : Bool) → begins (name kind) s ≡ x → cond x (fieldsIn (forms kind) (drop (length (name kind)) s)) malformed ≡ line vs r
+        → LineWritten kind s (wordsIn (forms kind) vs) (bitsIn (forms kind) vs) r
+    named vs true b e =
+        let f = fields-written (forms kind) (drop (length (name kind)) s) vs r (words-only kind) e in
+        record {
+          text = begins-with (name kind) s (name-visible kind) b ∙ rw (f .text) (simp append-assoc);
+          words = words-count (forms kind) vs;
+          patterns = bits-count (forms kind) vs;
+          limited = f .limited;
+          words-most = f .words-most;
+          bits-most = f .bits-most;
+        }
+    named vs false b e = absurd (malformed-line vs r e)
 
-    named : (vs : List ℕ) (x : Bool) → begins (name kind) s ≡ x
-        → cond x (lastFields kind (fieldCount kind) (drop (length (name kind)) s)) malformed ≡ line vs r
-        → take (decimalCount kind) vs ≡ ws → drop (decimalCount kind) vs ≡ bs → Result
-    named vs true b e w v =
-        let tail = drop (length (name kind)) s in
-        let f = fields-written (limits kind) (bitsCount kind) tail vs r (limits-most kind) (sym (all-fields kind tail) ∙ e) in
-        let count : length (f .words) ≡ decimalCount kind = limited-length (limits kind) (f .words) (f .limited) in
-        let words : f .words ≡ ws = sym (take-at (f .words) (f .bits) (decimalCount kind) count) ∙ ap (take (decimalCount kind)) (sym (f .together)) ∙ w in
-        let bits : f .bits ≡ bs = sym (drop-at (f .words) (f .bits) (decimalCount kind) count) ∙ ap (drop (decimalCount kind)) (sym (f .together)) ∙ v in (
-          begins-with (name kind) s (name-visible kind) b ∙ ap (λ (u : List ℕ). name kind ++ u) (f .text) ∙ rw (words, bits) (simp append-assoc),
-          record {
-            words = subst (Limited (limits kind)) words (f .limited);
-            patterns = subst (Limited (replicate (bitsCount kind) maxPattern)) bits (f .patterns);
-          },
-        )
-    named vs false b e w v = absurd (malformed-line vs r e)
-
-    read : (x : Line) → lineIn kind s ≡ x → fromLine kind x ≡ got ws bs r n → Result
+    read : (x : Line) → lineIn kind s ≡ x → fromLine kind x ≡ got ws bs r n → LineWritten kind s ws bs r
     read malformed l e = absurd (let z : _≡_ {A = ℕ} 0 1 = cc in omega arith)
-    read (line vs r′) l e = named vs (begins (name kind) s) refl (l ∙ ap (line vs) (cc)) (cc) (cc)
+    read (line vs r′) l e =
+        let words : wordsIn (forms kind) vs ≡ ws = cc in
+        let patterns : bitsIn (forms kind) vs ≡ bs = cc in
+        rw (← words, ← patterns) (named vs (begins (name kind) s) refl (l ∙ ap (line vs) (cc)))

@@ -4,11 +4,12 @@ use native.Mathlib.Omega.{arith}
 use mathlib.Core.Path.{_≡_, refl, ap, _∙_}
 use mathlib.Core.List.{List, [], _++_, append-assoc}
 use Rattle.model.specs.declared.LineKind.{LineKind}
-use Rattle.model.specs.Text.{bitsCount, decimalCount, Reading, got, prefixed, andThen, times, readLine}
+use Rattle.model.specs.Laws.Text.{wordCount, bitsCount}
+use Rattle.model.specs.Text.{forms, Reading, got, prefixed, andThen, times, readLine}
 use Rattle.model.specs.Program.{joined}
 use Rattle.round_trip.specs.Laws.Lines.{line-read}
-use Rattle.round_trip.specs.Laws.Parts.{Spans, spans-append, spans-part, spans-none, moved}
-use Rattle.round_trip.specs.Laws.Rows.{lineWords, lineBits, lineAt, FittingAt, Row, rowText}
+use Rattle.round_trip.specs.Laws.Parts.{length-part, Spans, spans-append, spans-part, spans-none, moved}
+use Rattle.round_trip.specs.Laws.Rows.{lineWords, lineBits, lineAt, WithinAt, Row, rowText}
 
 module _ (plan bits : List ℕ) where
   -- reading succeeds with the words from a to b and the bits from c to d, and leaves the text r
@@ -61,18 +62,18 @@ module _ (plan bits : List ℕ) where
   got-times read text at bt (suc n) each r =
       rw append-assoc (got-then (λ _. read) (got-times read text at bt n (λ i h. each i (omega arith)) (text n ++ r)) (each n (omega arith) r))
 
-  pub got-line : (kind : LineKind) (a b c d : ℕ) → FittingAt plan bits kind a c → a + decimalCount kind ≡ b → c + bitsCount kind ≡ d
+  pub got-line : (kind : LineKind) (a b c d : ℕ) → WithinAt plan bits kind a c → a + wordCount (forms kind) ≡ b → c + bitsCount (forms kind) ≡ d
       → (r : List ℕ) → Got (readLine kind (lineAt plan bits kind a c ++ r)) r a b c d
   got-line kind a b c d fits e f r = record {
     words = lineWords plan bits kind a c;
     patterns = lineBits plan bits kind a c;
     lines = 1;
-    reading = line-read kind (lineWords plan bits kind a c) (lineBits plan bits kind a c) r fits;
-    in-plan = spans-part plan a (decimalCount kind) b e;
-    in-bits = spans-part bits c (bitsCount kind) d f;
+    reading = line-read kind (lineWords plan bits kind a c) (lineBits plan bits kind a c) r (length-part plan a _) (length-part bits c _) fits;
+    in-plan = spans-part plan a (wordCount (forms kind)) b e;
+    in-bits = spans-part bits c (bitsCount (forms kind)) d f;
   }
 
-  pub got-row : {kind : LineKind} {n : ℕ} {at bt : ℕ → ℕ} {a b c d : ℕ} → Row kind n at bt a b c d → ((i : ℕ) → i < n → FittingAt plan bits kind (at i) (bt i))
+  pub got-row : {kind : LineKind} {n : ℕ} {at bt : ℕ → ℕ} {a b c d : ℕ} → Row kind n at bt a b c d → ((i : ℕ) → i < n → WithinAt plan bits kind (at i) (bt i))
       → (r : List ℕ) → Got (times n (readLine kind) (rowText plan bits kind n at bt ++ r)) r a b c d
   got-row {kind} {n} {at} {bt} row fits r =
       got-moved

@@ -7,7 +7,7 @@ use lib.ListN.{length, getD}
 use Rattle.model.specs.declared.LineKind.the-variants.{Figure, Joint, Clip, State, Node, Go, Pose}
 use Rattle.model.specs.Plan.{word, jointCount, clipCount, stateCount, parentAt, sampleCountAt, sampleCount, afterNodes, afterTransitions, stateAt, nodeCount, kindAt, transitionCountAt, transitionCount, conditionParameterAt, planEnd, total, transitionsBefore, samplesBefore, Value, posesAt, numberAt, numbersLength}
 use Rattle.model.specs.Laws.Totals.{total-same}
-use Rattle.model.specs.Text.{limits, bitsCount}
+use Rattle.model.specs.Text.{forms, wordsIn, bitsIn}
 use Rattle.model.specs.Program.{joined, part, lineText, stateText, figureText}
 use Rattle.round_trip.specs.Laws.Parts.{Holds, holds-getD}
 use Rattle.round_trip.specs.Laws.Rows.{lineAt, Row, rowText}
@@ -29,27 +29,27 @@ module _ (plan : List ℕ) where
   allPoses = samplesBefore plan (clipCount plan) * jointCount plan
 
   pub joint-row : Row Joint (jointCount plan) parentAt (λ j. 0) (parentAt 0) (parentAt (jointCount plan)) 0 0
-  unfolding limits bitsCount
+  unfolding forms wordsIn bitsIn
   joint-row = omega arith
 
   pub clip-row : Row Clip (clipCount plan) (sampleCountAt plan) (λ c. c) (parentAt (jointCount plan)) (stateAt plan 0) 0 (clipCount plan)
-  unfolding limits bitsCount sampleCountAt stateAt
+  unfolding forms wordsIn bitsIn sampleCountAt stateAt
   clip-row = omega arith
 
   pub node-row : (s : ℕ)
       → Row Node (nodeCount plan s) (kindAt plan s) (λ i. numbersAt s)
       (stateAt plan s + 1) (transitionCountAt plan s) (numbersAt s) (numbersAt s)
-  unfolding limits bitsCount kindAt transitionCountAt afterNodes nodeCount
+  unfolding forms wordsIn bitsIn kindAt transitionCountAt afterNodes nodeCount
   node-row s = omega arith
 
   pub go-row : (s : ℕ)
       → Row Go (transitionCount plan s) (conditionParameterAt plan s) (goNumbersAt s)
       (transitionCountAt plan s + 1) (stateAt plan (suc s)) (numbersAt s) (numbersAt (suc s))
-  unfolding limits bitsCount conditionParameterAt transitionCountAt afterTransitions stateAt transitionCount numberAt transitionsBefore total
+  unfolding forms wordsIn bitsIn conditionParameterAt transitionCountAt afterTransitions stateAt transitionCount numberAt transitionsBefore total
   go-row s = omega arith
 
   pub pose-row : Row Pose allPoses (λ m. planEnd plan) poseAt (planEnd plan) (planEnd plan) (posesAt plan) (numbersLength plan)
-  unfolding limits bitsCount numbersLength
+  unfolding forms wordsIn bitsIn numbersLength
   pose-row = omega arith
 
 -- ---- the text, from the left
@@ -80,11 +80,11 @@ module _ (plan bits : List ℕ) where
   poses = rowText plan bits Pose (allPoses plan) (λ m. planEnd plan) (poseAt plan)
 
   pub state-text : (s : ℕ) → stateText plan bits s ≡ lineText State (counts s) [] ++ (nodes s ++ transitions s)
-  unfolding stateText limits bitsCount part
+  unfolding stateText forms wordsIn bitsIn part
   state-text s = append-assoc (lineText State (counts s) []) (nodes s) (transitions s)
 
   pub figure-text : figureText plan bits ≡ header ++ (joints ++ (clips ++ (states ++ (poses ++ []))))
-  unfolding figureText limits bitsCount part numberAt
+  unfolding figureText forms wordsIn bitsIn part numberAt
   figure-text = simp (append-assoc, append-nil)
 
 -- ---- counts

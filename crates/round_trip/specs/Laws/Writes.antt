@@ -4,14 +4,15 @@ use native.Mathlib.Omega.{arith}
 use native.Mathlib.Decide.{ℕ-discrete}
 use mathlib.Core.Path.{_≡_, refl, sym, ap, subst, _∙_}
 use mathlib.Core.List.{List, [], _++_, append-assoc}
-use lib.ListN.{length, replicate, length-append, length-replicate}
+use lib.ListN.{length, length-append}
 use Rattle.model.specs.declared.LineKind.{LineKind}
-use Rattle.model.specs.Text.{maxWord, limits, bitsCount, decimalCount, Reading, bad, got, prefixed, andThen, times, readLine}
+use Rattle.model.specs.Laws.Text.{wordCount, bitsCount}
+use Rattle.model.specs.Text.{maxWord, forms, Reading, bad, got, prefixed, andThen, times, readLine}
 use Rattle.model.specs.Program.{joined, part}
 use Rattle.round_trip.specs.Laws.Fields.{maxPattern}
-use Rattle.round_trip.specs.Laws.Lines.{AtMost, limited-length, limited-most, most-append, limits-most, replicate-most, line-written}
+use Rattle.round_trip.specs.Laws.Lines.{AtMost, most-append, line-written}
 use Rattle.round_trip.specs.Laws.Parts.{Holds, holds-left, holds-right, moved}
-use Rattle.round_trip.specs.Laws.Rows.{lineWords, lineBits, lineAt, FittingAt, Row, rowText}
+use Rattle.round_trip.specs.Laws.Rows.{lineWords, lineBits, lineAt, WithinAt, Row, rowText}
 
 pub bad-got : (m : ℕ) (ws bs r : List ℕ) (n : ℕ) → bad m ≡ got ws bs r n → ⊥
 bad-got m ws bs r n e = let z : _≡_ {A = ℕ} 0 1 = cc in omega arith
@@ -138,26 +139,23 @@ module _ (plan bits : List ℕ) where
       pick i h f (yes p) = rw p (f .1)
       pick i h f (no p) = f .0 i (omega arith)
 
-  pub undone-line : (kind : LineKind) (a b c d : ℕ) → a + decimalCount kind ≡ b → c + bitsCount kind ≡ d
-      → (s : List ℕ) → Undone (readLine kind s) s (lineAt plan bits kind a c) a b c d (FittingAt plan bits kind a c)
+  pub undone-line : (kind : LineKind) (a b c d : ℕ) → a + wordCount (forms kind) ≡ b → c + bitsCount (forms kind) ≡ d
+      → (s : List ℕ) → Undone (readLine kind s) s (lineAt plan bits kind a c) a b c d (WithinAt plan bits kind a c)
   undone-line kind a b c d e f s ws bs r n read h g =
       let back = line-written kind s ws bs r n read in
-      let count : length ws ≡ decimalCount kind = limited-length (limits kind) ws (back .1 .words) in
-      let ones = replicate (bitsCount kind) maxPattern in
-      let bits-count : length bs ≡ bitsCount kind = limited-length ones bs (back .1 .patterns) ∙ length-replicate (bitsCount kind) maxPattern in
-      let words : ws ≡ lineWords plan bits kind a c = sym h ∙ ap (part plan a) count in
-      let patterns : bs ≡ lineBits plan bits kind a c = sym g ∙ ap (part bits c) bits-count in
+      let words : ws ≡ lineWords plan bits kind a c = sym h ∙ ap (part plan a) (back .words) in
+      let patterns : bs ≡ lineBits plan bits kind a c = sym g ∙ ap (part bits c) (back .patterns) in
       record {
-        written = back .0 ∙ rw (words, patterns);
-        words-end = omega arith;
-        bits-end = omega arith;
-        words-most = limited-most maxWord (limits kind) ws (limits-most kind) (back .1 .words);
-        bits-most = limited-most maxPattern ones bs (replicate-most maxPattern (bitsCount kind)) (back .1 .patterns);
-        facts = rw (← words, ← patterns) (back .1);
+        written = back .text ∙ rw (words, patterns);
+        words-end = omega (arith, back .words);
+        bits-end = omega (arith, back .patterns);
+        words-most = back .words-most;
+        bits-most = back .bits-most;
+        facts = rw (← words, ← patterns) (back .limited);
       }
 
   pub undone-row : {kind : LineKind} {n : ℕ} {at bt : ℕ → ℕ} {a b c d : ℕ} → Row kind n at bt a b c d
-      → (s : List ℕ) → Undone (times n (readLine kind) s) s (rowText plan bits kind n at bt) a b c d ((i : ℕ) → i < n → FittingAt plan bits kind (at i) (bt i))
+      → (s : List ℕ) → Undone (times n (readLine kind) s) s (rowText plan bits kind n at bt) a b c d ((i : ℕ) → i < n → WithinAt plan bits kind (at i) (bt i))
   undone-row {kind} {n} {at} {bt} row s =
       undone-moved
       (undone-times (readLine kind) (λ i. lineAt plan bits kind (at i) (bt i)) at bt _
