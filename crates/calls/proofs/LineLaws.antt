@@ -102,34 +102,60 @@ ends call is s = rw (is (drop 1 s))
 
 -- ---- names
 
+-- what looking for a name gives: its length, if it stands there
+abbrev pub Looked : List ℕ → List ℕ → ℕ → ℕ → Type 0
+Looked name text at r = r ≡ cond (begins name (drop at text)) (length name) 0
+
+is-there : (t : Bool) (n r : ℕ) → r ≡ cond t n 0 → 0 < r → (t ≡ true) × (r ≡ n)
+is-there true n r is some = (refl, is)
+is-there false n r is some = absurd (omega arith)
+
+is-absent : (t : Bool) (n r : ℕ) → r ≡ cond t n 0 → 0 < n → r ≤ 0 → t ≡ false
+is-absent true n r is some nothing = absurd (omega arith)
+is-absent false n r is some nothing = refl
+
 -- names that do not stand at a place, the last tested first
 pub data Misses (text : List ℕ) (at : ℕ) : List (List ℕ) → Type 0 where
   none-tested : Misses text at []
   missed : {name : List ℕ} {names : List (List ℕ)} → begins name (drop at text) ≡ false → Misses text at names → Misses text at (name ∷ names)
 
-pub update-named : (text : List ℕ) (at : ℕ) → begins updateName (drop at text) ≡ true → timeLine Run.Update (drop (at + 6) text) ≡ callIn (drop at text)
-unfolding callIn
-update-named text at e = rw (e, drop-drop)
+module _ {text : List ℕ} {at : ℕ} {r : ℕ} where
+  pub one-missed : (name : List ℕ) {names : List (List ℕ)} → 0 < length name → Looked name text at r → r ≤ 0 → Misses text at names → Misses text at (name ∷ names)
+  one-missed name some looked nothing = missed (is-absent _ _ r looked some nothing)
+
+  pub update-named : Misses text at [] → Looked updateName text at r → 0 < r → timeLine Run.Update (drop (at + r) text) ≡ callIn (drop at text)
+  unfolding callIn
+  update-named none-tested looked some =
+      let e = is-there (begins updateName (drop at text)) _ r looked some in
+      rw (e .1, e .0, drop-drop)
+
+  pub speed-named : Misses text at (updateName ∷ []) → Looked speedName text at r → 0 < r → timeLine Run.Speed (drop (at + r) text) ≡ callIn (drop at text)
+  unfolding callIn
+  speed-named (missed u none-tested) looked some =
+      let e = is-there (begins speedName (drop at text)) _ r looked some in
+      rw (u, e .1, e .0, drop-drop)
+
+  pub set-named : Misses text at (speedName ∷ updateName ∷ []) → Looked setName text at r → 0 < r → setLine (drop (at + r) text) ≡ callIn (drop at text)
+  unfolding callIn
+  set-named (missed p (missed u none-tested)) looked some =
+      let e = is-there (begins setName (drop at text)) _ r looked some in
+      rw (u, p, e .1, e .0, drop-drop)
+
+  pub frame-named : Misses text at (setName ∷ speedName ∷ updateName ∷ []) → Looked frameName text at r → 0 < r
+      → frameLine Ordinary (drop (at + r) text) ≡ callIn (drop at text)
+  unfolding callIn
+  frame-named (missed t (missed p (missed u none-tested))) looked some =
+      let e = is-there (begins frameName (drop at text)) _ r looked some in
+      rw (u, p, t, e .1, e .0, drop-drop)
+
+  pub page-named : Misses text at (frameName ∷ setName ∷ speedName ∷ updateName ∷ []) → Looked pageName text at r → 0 < r
+      → frameLine Page (drop (at + r) text) ≡ callIn (drop at text)
+  unfolding callIn
+  page-named (missed f (missed t (missed p (missed u none-tested)))) looked some =
+      let e = is-there (begins pageName (drop at text)) _ r looked some in
+      rw (u, p, t, f, e .1, e .0, drop-drop)
 
 module _ {text : List ℕ} {at : ℕ} where
-  pub speed-named : Misses text at (updateName ∷ []) → begins speedName (drop at text) ≡ true → timeLine Run.Speed (drop (at + 5) text) ≡ callIn (drop at text)
-  unfolding callIn
-  speed-named (missed u none-tested) e = rw (u, e, drop-drop)
-
-  pub set-named : Misses text at (speedName ∷ updateName ∷ []) → begins setName (drop at text) ≡ true → setLine (drop (at + 3) text) ≡ callIn (drop at text)
-  unfolding callIn
-  set-named (missed p (missed u none-tested)) e = rw (u, p, e, drop-drop)
-
-  pub frame-named : Misses text at (setName ∷ speedName ∷ updateName ∷ []) → begins frameName (drop at text) ≡ true
-      → frameLine Ordinary (drop (at + 5) text) ≡ callIn (drop at text)
-  unfolding callIn
-  frame-named (missed t (missed p (missed u none-tested))) e = rw (u, p, t, e, drop-drop)
-
-  pub page-named : Misses text at (frameName ∷ setName ∷ speedName ∷ updateName ∷ []) → begins pageName (drop at text) ≡ true
-      → frameLine Page (drop (at + 4) text) ≡ callIn (drop at text)
-  unfolding callIn
-  page-named (missed f (missed t (missed p (missed u none-tested)))) e = rw (u, p, t, f, e, drop-drop)
-
   pub unnamed : Misses text at (pageName ∷ frameName ∷ setName ∷ speedName ∷ updateName ∷ []) → malformed ≡ callIn (drop at text)
   unfolding callIn
   unnamed (missed g (missed f (missed t (missed p (missed u none-tested))))) = rw (u, p, t, f, g)

@@ -1,6 +1,7 @@
 // Lists of calls as text, a call a line.
 use fields::Field;
 use fields::byte;
+use fields::name_at;
 use fields::read_field;
 use fields::read_wide_bits;
 use float::f32_from_bits;
@@ -9,10 +10,8 @@ use model::FieldForm;
 use model::FrameKind;
 use model::limits::MAX_WORD;
 ghost use mathlib.Core.Path.{_≡_};
-ghost use mathlib.Core.Bool.{true};
-ghost use Prim.Native.Nat.{ℕ, _-_, _≤_, _<_};
-ghost use lib.ListN.{length, drop, getD};
-ghost use Rattle.model.specs.Text.{begins};
+ghost use Prim.Native.Nat.{_≤_};
+ghost use lib.ListN.{length, drop};
 ghost use Rattle.calls.specs.CallText.{timeLine, setLine, frameLine, callIn, readCalls, lineCount, callList};
 ghost use Rattle.calls.specs.Read.{timedCall, timeOf, behind, isMalformed, lineEndOf, lineRead, firstMalformed};
 ghost use Rattle.calls.specs.declared.Call.the-variants as Call;
@@ -52,21 +51,6 @@ pub struct CallAt {
 pub struct ListChecked {
     pub lines: usize,
     pub malformed: usize,
-}
-
-// Whether a name without a 0 stands at `at`; then it stands inside the text.
-fn begins(text: &[u8], at: usize, name: &[u8]) -> bool
-    requires { ⌜ ((i : ℕ) → i < length (now name) → 1 ≤ getD (now name) i 0) ⌝ }
-    ensures { λ r. ⌜ (r ≡ begins (now (name .entry)) (drop at (now (text .entry)))) × (r ≡ true → length (now (name .entry)) ≤ length (now (text .entry)) - at) ⌝ }
-{
-    let mut i = 0;
-    while i < name.len() {
-        if byte(text, at + i) != name[i] {
-            return false;
-        }
-        i += 1;
-    }
-    true
 }
 
 // Where a field begins, behind the comma at `at`. Without a comma it is the end of the text, where no field is.
@@ -203,20 +187,25 @@ fn frame_line(text: &[u8], at: usize, kind: FrameKind) -> CallAt
 pub fn call_at(text: &[u8], at: usize) -> CallAt
     ensures { λ r. ⌜ lineRead (now (text .entry)) r ≡ callIn (drop at (now (text .entry))) ⌝ }
 {
-    if begins(text, at, b"update") {
-        return time_line(text, at + 6, false);
+    let update = name_at(text, at, b"update");
+    if update > 0 {
+        return time_line(text, at + update, false);
     }
-    if begins(text, at, b"speed") {
-        return time_line(text, at + 5, true);
+    let speed = name_at(text, at, b"speed");
+    if speed > 0 {
+        return time_line(text, at + speed, true);
     }
-    if begins(text, at, b"set") {
-        return set_line(text, at + 3);
+    let set = name_at(text, at, b"set");
+    if set > 0 {
+        return set_line(text, at + set);
     }
-    if begins(text, at, b"frame") {
-        return frame_line(text, at + 5, FrameKind::Ordinary);
+    let frame = name_at(text, at, b"frame");
+    if frame > 0 {
+        return frame_line(text, at + frame, FrameKind::Ordinary);
     }
-    if begins(text, at, b"page") {
-        return frame_line(text, at + 4, FrameKind::Page);
+    let page = name_at(text, at, b"page");
+    if page > 0 {
+        return frame_line(text, at + page, FrameKind::Page);
     }
     malformed()
 }

@@ -2,11 +2,11 @@
 use borrow.Author.Needs.{needs}
 use Prim.Native.Nat.{ℕ}
 use native.Mathlib.Omega.{arith}
-use mathlib.Core.Path.{sym, _∙_}
+use mathlib.Core.Path.{_∙_}
 use mathlib.Core.List.{List, [], _∷_}
 use Rattle.fields.proofs.Bytes.{positive-at}
 use Rattle.calls.specs.CallText.{updateName, speedName, setName, frameName, pageName}
-use Rattle.calls.proofs.LineLaws.{malformed-read, Misses, none-tested, missed, update-named, speed-named, set-named, frame-named, page-named, unnamed}
+use Rattle.calls.proofs.LineLaws.{malformed-read, Misses, none-tested, one-missed, update-named, speed-named, set-named, frame-named, page-named, unnamed}
 use Rattle.calls.proofs.call_at.Statement.{statement}
 use Rattle.calls.proofs.call_at.Tie as tie
 
@@ -15,62 +15,44 @@ abbrev Past : tie.Start → List (List ℕ) → Type 0
 Past s = Misses (s .args .text .now) (s .args .at)
 
 past-update : (c : tie.Else1) → Past (c .before .before .before .before) (updateName ∷ [])
-past-update c = missed (sym (c .before .begins .ensures .0) ∙ c .if1 .left) none-tested
+past-update c = one-missed updateName (omega arith) (c .before .name-at .ensures .0) (c .if1 .left) none-tested
 
 past-speed : (c : tie.Else2) → Past (c .before .before .before .before .before .before .before) (speedName ∷ updateName ∷ [])
-past-speed c = missed (sym (c .before .begins2 .ensures .0) ∙ c .if2 .left) (past-update (c .before .before .before))
+past-speed c = one-missed speedName (omega arith) (c .before .name-at2 .ensures .0) (c .if2 .left) (past-update (c .before .before .before))
 
 past-set : (c : tie.Else3) → Past (c .before .before .before .before .before .before .before .before .before .before) (setName ∷ speedName ∷ updateName ∷ [])
-past-set c = missed (sym (c .before .begins3 .ensures .0) ∙ c .if3 .left) (past-speed (c .before .before .before))
+past-set c = one-missed setName (omega arith) (c .before .name-at3 .ensures .0) (c .if3 .left) (past-speed (c .before .before .before))
 
 past-frame : (c : tie.Else4) → Past (c .before .before .before .before .before .before .before .before .before .before .before .before .before) (frameName ∷ setName ∷ speedName ∷ updateName ∷ [])
-past-frame c = missed (sym (c .before .begins4 .ensures .0) ∙ c .if4 .left) (past-set (c .before .before .before))
+past-frame c = one-missed frameName (omega arith) (c .before .name-at4 .ensures .0) (c .if4 .left) (past-set (c .before .before .before))
 
 past-page : (c : tie.Else5) → Past (c .before .before .before .before .before .before .before .before .before .before .before .before .before .before .before .before) (pageName ∷ frameName ∷ setName ∷ speedName ∷ updateName ∷ [])
-past-page c = missed (sym (c .before .begins5 .ensures .0) ∙ c .if5 .left) (past-frame (c .before .before .before))
-
--- a name that stands in the text ends inside it
-
-add-time-line : tie.Need-add-time-line
-add-time-line c = omega (arith, c .before .begins .ensures .1 (c .if1 .taken))
-
-add-time-line-2 : tie.Need-add-time-line-2
-add-time-line-2 c = omega (arith, c .before .begins2 .ensures .1 (c .if2 .taken))
-
-add-set-line : tie.Need-add-set-line
-add-set-line c = omega (arith, c .before .begins3 .ensures .1 (c .if3 .taken))
-
-add-frame-line : tie.Need-add-frame-line
-add-frame-line c = omega (arith, c .before .begins4 .ensures .1 (c .if4 .taken))
-
-add-frame-line-2 : tie.Need-add-frame-line-2
-add-frame-line-2 c = omega (arith, c .before .begins5 .ensures .1 (c .if5 .taken))
+past-page c = one-missed pageName (omega arith) (c .before .name-at5 .ensures .0) (c .if5 .left) (past-frame (c .before .before .before))
 
 returns : tie.Need-returns
 returns c =
     let b = c .before .before in
-    let a = b .before .before .before .args in
-    c .time-line .ensures ∙ update-named (a .text .now) (a .at) (sym (b .begins .ensures .0) ∙ c .before .if1 .taken)
+    c .time-line .ensures ∙ update-named none-tested (b .name-at .ensures .0) (c .before .if1 .taken)
 
 returns-2 : tie.Need-returns-2
 returns-2 c =
     let b = c .before .before in
-    c .time-line2 .ensures ∙ speed-named (past-update (b .before .before)) (sym (b .begins2 .ensures .0) ∙ c .before .if2 .taken)
+    c .time-line2 .ensures ∙ speed-named (past-update (b .before .before)) (b .name-at2 .ensures .0) (c .before .if2 .taken)
 
 returns-3 : tie.Need-returns-3
 returns-3 c =
     let b = c .before .before in
-    c .set-line .ensures ∙ set-named (past-speed (b .before .before)) (sym (b .begins3 .ensures .0) ∙ c .before .if3 .taken)
+    c .set-line .ensures ∙ set-named (past-speed (b .before .before)) (b .name-at3 .ensures .0) (c .before .if3 .taken)
 
 returns-4 : tie.Need-returns-4
 returns-4 c =
     let b = c .before .before in
-    c .frame-line .ensures ∙ frame-named (past-set (b .before .before)) (sym (b .begins4 .ensures .0) ∙ c .before .if4 .taken)
+    c .frame-line .ensures ∙ frame-named (past-set (b .before .before)) (b .name-at4 .ensures .0) (c .before .if4 .taken)
 
 returns-5 : tie.Need-returns-5
 returns-5 c =
     let b = c .before .before in
-    c .frame-line2 .ensures ∙ page-named (past-frame (b .before .before)) (sym (b .begins5 .ensures .0) ∙ c .before .if5 .taken)
+    c .frame-line2 .ensures ∙ page-named (past-frame (b .before .before)) (b .name-at5 .ensures .0) (c .before .if5 .taken)
 
 returns-6 : tie.Need-returns-6
 returns-6 c = malformed-read _ _ (c .malformed .ensures) ∙ unnamed (past-page (c .before))
@@ -81,27 +63,27 @@ call-at-spec =
     (tie.spec
     (search needs)
     (λ c κs. positive-at updateName tt)
-    add-time-line
+    (search needs)
     (search needs)
     returns
     (search needs)
     (λ c κs. positive-at speedName tt)
-    add-time-line-2
+    (search needs)
     (search needs)
     returns-2
     (search needs)
     (λ c κs. positive-at setName tt)
-    add-set-line
+    (search needs)
     (search needs)
     returns-3
     (search needs)
     (λ c κs. positive-at frameName tt)
-    add-frame-line
+    (search needs)
     (search needs)
     returns-4
     (search needs)
     (λ c κs. positive-at pageName tt)
-    add-frame-line-2
+    (search needs)
     (search needs)
     returns-5
     (search needs)
