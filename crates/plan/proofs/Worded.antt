@@ -9,6 +9,7 @@ use Rattle.model.specs.declared.Refusal.{Refusal}
 use Rattle.model.proofs.Answer.{the-type}
 use Rattle.model.proofs.Tags.{never}
 use Rattle.model.specs.Answers.{Verdict, accepted, refused, values, _then_}
+use Rattle.model.specs.Text.{maxWord}
 use Rattle.model.specs.Plan.{maxTransitions, stateCount, transitionCount, transitionsBefore, samplesBefore, posesAt, numbersLength}
 use Rattle.model.specs.Check.{checkHeader, check}
 use Rattle.model.specs.Laws.Answers.{then-left, then-right, then-accepted, then-refused, each-at}
@@ -38,7 +39,7 @@ module _ (plan : List ℕ) (ok : Worded plan) where
     unfolding layoutOf posesAt
     layout-small = rw e (header.few-joints plan header-passed, header.few-clips plan header-passed, omega (arith, header.few-clips plan header-passed, few-transitions-in-all))
 
-    pub product-small : (s : ℕ) → s ≤ l .clips * 65536 → s * l .joints ≤ 67108864
+    pub product-small : (s : ℕ) → s ≤ l .clips * maxWord → s * l .joints ≤ 67108864
     product-small s h = let k : s ≤ 1048576 = omega (arith, layout-small) in mul-le-mul k (layout-small .0)
 
 -- the count of numbers, from a layout

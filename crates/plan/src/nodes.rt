@@ -11,6 +11,7 @@ ghost use Prim.Native.Nat.{suc, _+_, _<_, _≤_};
 ghost use lib.Dec.{ltb};
 ghost use lib.ListN.{getD, length};
 ghost use Rattle.model.specs.Answers.{accepted, values, each, require};
+ghost use Rattle.model.specs.Text.{maxWord};
 ghost use Rattle.model.specs.Plan.{clipCount, parameterCount, kindAt, clipNode, nodeCount};
 ghost use Rattle.model.specs.Check.{used, checkNode};
 ghost use Rattle.plan.specs.Parts.{checkClip, checkBlend, Marks, NodesChecked};
@@ -30,7 +31,7 @@ fn check_clip(
     clips: usize,
     clip_node: usize,
 ) -> Answer
-    requires { ⌜ (at < 65536) × (at ≡ kindAt (now plan) state i) × (clips ≡ clipCount (now plan)) × («clip_node» ≡ clipNode (now plan) state i) ⌝ }
+    requires { ⌜ (at ≤ maxWord) × (at ≡ kindAt (now plan) state i) × (clips ≡ clipCount (now plan)) × («clip_node» ≡ clipNode (now plan) state i) ⌝ }
     ensures { λ r. ⌜ values r ≡ checkClip (now (plan .entry)) state i ⌝ }
 {
     if clip_node >= 64 {
@@ -64,7 +65,7 @@ fn check_blend(
     parameters: usize,
     used: &[bool; 32],
 ) -> Answer
-    requires { ⌜ (at < 65536) × (at ≡ kindAt (now plan) state i) × (i < 32) × (parameters ≡ parameterCount (now plan)) × Marks (now plan) state i (now used) ⌝ }
+    requires { ⌜ (at ≤ maxWord) × (at ≡ kindAt (now plan) state i) × (i < 32) × (parameters ≡ parameterCount (now plan)) × Marks (now plan) state i (now used) ⌝ }
     ensures { λ r. ⌜ values r ≡ checkBlend (now (plan .entry)) state i ⌝ }
 {
     let a = word(plan, at + 1);
@@ -90,7 +91,7 @@ fn check_node(
     clip_node: usize,
     used: &[bool; 32],
 ) -> Answer
-    requires { ⌜ (at < 65536) × (at ≡ kindAt (now plan) state i) × (i < 32) × (clips ≡ clipCount (now plan)) × (parameters ≡ parameterCount (now plan)) × («clip_node» ≡ clipNode (now plan) state i) × Marks (now plan) state i (now used) ⌝ }
+    requires { ⌜ (at ≤ maxWord) × (at ≡ kindAt (now plan) state i) × (i < 32) × (clips ≡ clipCount (now plan)) × (parameters ≡ parameterCount (now plan)) × («clip_node» ≡ clipNode (now plan) state i) × Marks (now plan) state i (now used) ⌝ }
     ensures { λ r. ⌜ values r ≡ checkNode (now (plan .entry)) state i ⌝ }
 {
     let kind = word_up_to(plan, 4, at, 2);
@@ -105,7 +106,7 @@ fn check_node(
 
 // The marks after a node that passed.
 fn marked(plan: &[u16], state: usize, i: usize, at: usize, used: [bool; 32]) -> [bool; 32]
-    requires { ⌜ (at < 65536) × (at ≡ kindAt (now plan) state i) × (i < 32) × (checkNode (now plan) state i ≡ accepted) × Marks (now plan) state i used ⌝ }
+    requires { ⌜ (at ≤ maxWord) × (at ≡ kindAt (now plan) state i) × (i < 32) × (checkNode (now plan) state i ≡ accepted) × Marks (now plan) state i used ⌝ }
     ensures { λ r. ⌜ Marks (now (plan .entry)) state (suc i) r ⌝ }
 {
     if word(plan, at) == 0 {
@@ -119,7 +120,7 @@ fn marked(plan: &[u16], state: usize, i: usize, at: usize, used: [bool; 32]) -> 
 
 // The clip node after this one.
 fn counted(plan: &[u16], state: usize, i: usize, at: usize, clip_node: usize) -> usize
-    requires { ⌜ (at ≡ kindAt (now plan) state i) × («clip_node» < 65536) × («clip_node» ≡ clipNode (now plan) state i) ⌝ }
+    requires { ⌜ (at ≡ kindAt (now plan) state i) × («clip_node» ≤ maxWord) × («clip_node» ≡ clipNode (now plan) state i) ⌝ }
     ensures { λ r. ⌜ (r ≡ clipNode (now (plan .entry)) state (suc i)) × (r ≤ «clip_node» + 1) ⌝ }
 {
     if word(plan, at) == 0 {

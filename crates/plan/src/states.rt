@@ -9,6 +9,7 @@ use model::Answer;
 ghost use mathlib.Core.Path.{_≡_};
 ghost use Prim.Native.Nat.{_<_, _≤_};
 ghost use Rattle.model.specs.Answers.{values, each};
+ghost use Rattle.model.specs.Text.{maxWord};
 ghost use Rattle.model.specs.Plan.{clipCount, parameterCount, stateCount, stateAt, conditionParameterAt, clipNodesBefore};
 ghost use Rattle.model.specs.Check.{checkTransition, checkState};
 ghost use Rattle.plan.specs.Parts.{StatesChecked};
@@ -28,7 +29,7 @@ fn check_transition(
     parameters: usize,
     states: usize,
 ) -> Answer
-    requires { ⌜ (at < 65536) × (at ≡ conditionParameterAt (now plan) state t) × (parameters ≡ parameterCount (now plan)) × (states ≡ stateCount (now plan)) ⌝ }
+    requires { ⌜ (at ≤ maxWord) × (at ≡ conditionParameterAt (now plan) state t) × (parameters ≡ parameterCount (now plan)) × (states ≡ stateCount (now plan)) ⌝ }
     ensures { λ r. ⌜ values r ≡ checkTransition (now (plan .entry)) state t ⌝ }
 {
     let parameter = word_below(plan, 5, at, parameters);

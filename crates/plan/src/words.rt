@@ -9,9 +9,10 @@ use layout::word;
 use model::Answer;
 use model::refused;
 ghost use mathlib.Core.Path.{_≡_};
-ghost use Prim.Native.Nat.{_<_};
+ghost use Prim.Native.Nat.{_≤_};
 ghost use lib.Dec.{leb, ltb};
 ghost use Rattle.model.specs.Answers.{values, each};
+ghost use Rattle.model.specs.Text.{maxWord};
 ghost use Rattle.model.specs.Plan.{word, jointCount};
 ghost use Rattle.model.specs.Check.{within, wordIs, checkHeader, checkParent, checkSampleCount};
 
@@ -76,7 +77,7 @@ pub fn check_header(plan: &[u16]) -> Answer
 
 // 255 is a root; any other parent is an earlier joint.
 fn check_parent(plan: &[u16], j: usize) -> Answer
-    requires { ⌜ j < 65536 ⌝ }
+    requires { ⌜ j ≤ maxWord ⌝ }
     ensures { λ r. ⌜ values r ≡ checkParent (now (plan .entry)) j ⌝ }
 {
     let at = PARENTS_AT + j;
@@ -88,7 +89,7 @@ fn check_parent(plan: &[u16], j: usize) -> Answer
 }
 
 pub fn check_parents(plan: &[u16], joints: usize) -> Answer
-    requires { ⌜ joints < 65536 ⌝ }
+    requires { ⌜ joints ≤ maxWord ⌝ }
     ensures { λ r. ⌜ values r ≡ each joints (checkParent (now (plan .entry))) ⌝ }
 {
     let mut j = 0;
@@ -103,7 +104,7 @@ pub fn check_parents(plan: &[u16], joints: usize) -> Answer
 }
 
 pub fn check_sample_counts(plan: &[u16], joints: usize, clips: usize) -> Answer
-    requires { ⌜ (joints ≡ jointCount (now plan)) × (joints < 65536) × (clips < 65536) ⌝ }
+    requires { ⌜ (joints ≡ jointCount (now plan)) × (joints ≤ maxWord) × (clips ≤ maxWord) ⌝ }
     ensures { λ r. ⌜ values r ≡ each clips (checkSampleCount (now (plan .entry))) ⌝ }
 {
     let mut c = 0;
