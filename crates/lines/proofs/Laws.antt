@@ -1,166 +1,135 @@
--- Laws of the forms of lines and of the reading of one, over plain values. Assumes nothing.
-use Prim.Native.Nat.{ℕ, suc, _+_, _-_, _≤_, _<_}
+-- Laws of the kinds of line and of the reading of one, over plain values. Assumes nothing.
+use Prim.Native.Nat.{ℕ, zero, suc, _+_, _-_, _≤_, _<_}
 use native.Mathlib.Nat.{sub-self, sub-zero}
-use native.Mathlib.Numerals.{add-one}
 use native.Mathlib.Omega.{arith}
 use mathlib.Core.Path.{_≡_, refl, sym, ap, _∙_}
 use mathlib.Core.Bool.{Bool, true, false, cond}
 use mathlib.Core.List.{List, [], _∷_, _++_, append-assoc, append-nil}
 use lib.Dec.{T, leb, eqb, leb→le}
-use lib.ListN.{length, getD, take, drop, set, replicate, length-set, List·getD-append}
-use lib.Seq.{getD-take, drop-drop, take-append-seam, take-suc-set}
-use borrow.Author.Tests.{lt-ltb, le-ltb, eq-eqb, ne-eqb}
+use lib.ListN.{length, getD, take, drop, set, replicate, length-map, getD-replicate}
+use lib.Seq.{getD-take, getD-drop, drop-cons, drop-length, drop-drop, take-suc-set}
+use mir.Val.{Val}
+use denote.Laws.{Is}
+use denote.Struct.Laws as LL
+use borrow.Author.Tests.{eq-eqb, ne-eqb}
 use Rattle.model.specs.declared.LineKind.{LineKind}
 use Rattle.model.specs.declared.LineKind.the-variants.{Figure, Joint, Clip, State, Node, Go, Pose}
 use Rattle.model.specs.declared.FieldForm.{FieldForm}
 use Rattle.model.specs.declared.FieldForm.the-variants.{Decimal, Bits}
-use Rattle.model.specs.Text.{comma, lineFeed, none, field, Line, malformed, line, name, limits, bitsCount, decimalCount, fieldCount, formOf, withField, fieldThen, fieldIn, lastFields, begins, lineIn}
-use Rattle.fields.proofs.Bytes.{inside, front-at, positive, positive-at, Begun, name-found, name-missing, name-goes}
-use Rattle.lines.specs.declared.LineForm.{LineForm}
-use Rattle.lines.specs.LineForm.{lineForm}
+use Rattle.model.specs.Text.{comma, lineFeed, maxWord, none, field, Line, malformed, line, name, forms, fieldCount, formOf, withField, fieldThen, fieldIn, fieldsIn, begins, lineIn}
+use Rattle.fields.proofs.Bytes.{front-at, positive, positive-at}
+use Rattle.lines.specs.declared.Reading.{Reading}
+use Rattle.lines.specs.Reading.{maxFields, withFields, lineOf, Step}
+use Rattle.lines.proofs.Reading as R
+use Rattle.lines.proofs.Reading.Laws as R′
 
--- ---- the forms
+-- ---- the kinds
 
--- a name has one to six bytes, none of them 0; there are at most five decimals and at most eight fields
+-- a name has some bytes, none of them 0, and there are at most eight fields
 abbrev Sized : LineKind → Type 0
-Sized kind =
-    T (leb 1 (length (name kind))) × T (leb (length (name kind)) 6) × T (leb (decimalCount kind) 5) × T (leb (fieldCount kind) 8) × T (positive (name kind))
+Sized kind = T (leb 1 (length (name kind))) × T (leb (fieldCount kind) maxFields) × T (positive (name kind))
 
 sized : (kind : LineKind) → Sized kind
-unfolding name limits bitsCount
-sized Figure = (tt, tt, tt, tt, tt)
-sized Joint = (tt, tt, tt, tt, tt)
-sized Clip = (tt, tt, tt, tt, tt)
-sized State = (tt, tt, tt, tt, tt)
-sized Node = (tt, tt, tt, tt, tt)
-sized Go = (tt, tt, tt, tt, tt)
-sized Pose = (tt, tt, tt, tt, tt)
+unfolding name forms
+sized Figure = (tt, tt, tt)
+sized Joint = (tt, tt, tt)
+sized Clip = (tt, tt, tt)
+sized State = (tt, tt, tt)
+sized Node = (tt, tt, tt)
+sized Go = (tt, tt, tt)
+sized Pose = (tt, tt, tt)
 
-module _ (kind : LineKind) (k n : ℕ) (is : n ≡ decimalCount kind) where
-  pub decimal-small : k < n → k < 5
-  decimal-small below = omega (arith, leb→le (decimalCount kind) 5 (sized kind .2))
+pub name-positive : (kind : LineKind) (i : ℕ) → i < length (name kind) → 1 ≤ getD (name kind) i 0
+name-positive kind = positive-at (name kind) (sized kind .2)
 
-  pub decimal-form : k < n → (form : LineForm) → form ≡ lineForm kind → Decimal (getD (form .2) k 0) ≡ formOf kind k
-  unfolding formOf lineForm
-  decimal-form below form e =
-      let h : k < decimalCount kind = rw is at below in
-      rw (e, lt-ltb _ _ h, List·getD-append (limits kind) _ 0 k h)
+pub fields-few : (kind : LineKind) → fieldCount kind ≤ maxFields
+fields-few kind = leb→le (fieldCount kind) maxFields (sized kind .1)
 
-  pub bits-form : n ≤ k → Bits ≡ formOf kind k
-  unfolding formOf
-  bits-form above = rw (le-ltb k (decimalCount kind) (rw is at above))
+-- from field n on there are float bits alone, and so past the last field
+only-bits : (m i : ℕ) → getD (replicate m Bits) i Bits ≡ Bits
+only-bits zero i = refl
+only-bits (suc m) zero = refl
+only-bits (suc m) (suc i) = only-bits m i
 
--- ---- a name: the first bytes of the table's array
+module _ {kind is : LineKind} {k : ℕ} (n : ℕ) (e : kind ≡ is) where
+  pub bits-from : (m : ℕ) → drop n (forms is) ≡ replicate m Bits → n ≤ k → Bits ≡ formOf kind k
+  bits-from m p h =
+      let i : n + (k - n) ≡ k = omega arith in
+      rw (e, ← i, ← getD-drop n (forms is) (k - n) Bits, p, only-bits m (k - n))
 
-module _ (kind : LineKind) {form : LineForm} (e : form ≡ lineForm kind) where
-  name-length : form .1 ≡ length (name kind)
-  unfolding lineForm
-  name-length = ap (λ f. f .1) e
-
-  name-bytes : take (form .1) (form .0) ≡ name kind
-  unfolding lineForm
-  name-bytes = rw (e, take-append-seam)
-
-  pub name-short : form .1 ≤ 6
-  name-short = rw name-length (leb→le _ _ (sized kind .1))
-
-  -- i of them stand at a place
-  module _ {text : List ℕ} {at i : ℕ} (begun : Begun (take (form .1) (form .0)) text at i) where
-    name-begun : Begun (name kind) text at i
-    name-begun = rw name-bytes at begun
-
-    pub form-found : form .1 ≤ i → form .1 ≡ cond (begins (name kind) (drop at text)) (length (name kind)) 0
-    form-found end = rw (name-found name-begun (omega (arith, name-length))) name-length
-
-    module _ (below : i < form .1) {b : ℕ} (is : b ≡ getD text (at + i) 0) where
-      in-name : i < length (name kind)
-      in-name = omega (arith, name-length)
-
-      name-byte : getD (name kind) i 0 ≡ getD (form .0) i 0
-      name-byte = rw (← name-bytes, getD-take (form .1) (form .0) i 0 below)
-
-      pub form-missing : (b ≡ getD (form .0) i 0 → ⊥) → 0 ≡ cond (begins (name kind) (drop at text)) (length (name kind)) 0
-      form-missing differs = rw (name-missing name-begun in-name is (λ h. differs (h ∙ name-byte)))
-
-      pub form-goes : b ≡ getD (form .0) i 0 → Begun (take (form .1) (form .0)) text at (i + 1)
-      form-goes same = rw name-bytes (name-goes name-begun in-name is (positive-at (name kind) (sized kind .4) i in-name) (same ∙ sym name-byte))
+  -- up to field n there are words alone
+  pub words-to : take n (forms is) ≡ replicate n (Decimal maxWord) → k < n → Decimal maxWord ≡ formOf kind k
+  words-to p h = rw (e, ← getD-take n (forms is) k Bits h, p, getD-replicate n k (Decimal maxWord) Bits h)
 
 -- ---- fields
 
--- values before those of a line
-abbrev withFields : List ℕ → Line → Line
-withFields vs malformed = malformed
-withFields vs (line ws rest) = line (vs ++ ws) rest
-
-none-before : (l : Line) → l ≡ withFields [] l
-none-before malformed = refl
-none-before (line ws rest) = refl
+-- the array's length, as the struct's type has it
+pub values-length : (reading : Reading) (vs : List Val) → Is R.the-row reading vs → length (reading .values) ≡ maxFields
+values-length reading vs is = sym (length-map (reading .values) _) ∙ LL.owed R.the-type R′.the-laws reading vs is .0 .1 .0 .1
 
 one-more : (vs : List ℕ) (v : ℕ) (l : Line) → withFields vs (withField v l) ≡ withFields (vs ++ v ∷ []) l
 unfolding withField
 one-more vs v malformed = refl
 one-more vs v (line ws rest) = rw append-assoc
 
--- k of the n fields are read, and the next begins, or the line ends, at `here`
-pub record Read (kind : LineKind) (n : ℕ) (text : List ℕ) (at : ℕ) (values : List ℕ) (here k : ℕ) : Type 0 where
-  pub count : n ≡ fieldCount kind
-  pub most : k ≤ n
-  pub places : length values ≡ 8
-  pub reading : lastFields kind (fieldCount kind) (drop at text) ≡ withFields (take k values) (lastFields kind (fieldCount kind - k) (drop here text))
+-- b is the byte before field k, the first of those that are left
+module _ (kind : LineKind) (text : List ℕ) (at : ℕ) (before : Reading) (some : 1 ≤ before .left) (few : before .left ≤ fieldCount kind)
+    {b : ℕ} (is : b ≡ getD text at 0) where
+  abbrev k : ℕ
+  k = fieldCount kind - before .left
 
-pub none-read : (kind : LineKind) (n : ℕ) (text : List ℕ) (at : ℕ) → n ≡ fieldCount kind → Read kind n text at (replicate 8 0) at 0
-none-read kind n text at e = record { count = e; most = omega arith; places = refl; reading = rw sub-zero (none-before _) }
+  opened : fieldsIn (drop k (forms kind)) (drop at text)
+      ≡ cond (eqb b comma) (fieldThen (fieldIn (formOf kind k) (drop (at + 1) text)) (fieldsIn (drop (suc k) (forms kind)))) malformed
+  unfolding fieldsIn
+  opened = rw (drop-cons (forms kind) k Bits (omega arith), front-at text at is, drop-drop 1 at text)
 
-pub fields-few : (kind : LineKind) → fieldCount kind ≤ 8
-fields-few kind = leb→le (fieldCount kind) 8 (sized kind .3)
+  -- nothing is left, and at the text's end no line feed stands
+  abbrev Stopped : List ℕ → Type 0
+  Stopped values = Step kind text at before (record { values = values; left = 0; end = length text })
 
-module _ {kind : LineKind} {n : ℕ} {text : List ℕ} {at : ℕ} {values : List ℕ} {here k : ℕ} (read : Read kind n text at values here k)
-    {b : ℕ} (is : b ≡ getD text here 0) where
-  pub byte-inside : 1 ≤ b → here < length text
-  byte-inside = inside text here is
+  stops : {values : List ℕ} → fieldsIn (drop k (forms kind)) (drop at text) ≡ malformed → Stopped values
+  unfolding lineOf fieldsIn
+  stops h = record { fewer = some; same = rw (h, sub-zero, drop-length (forms kind), drop-length text) }
 
-  module _ (below : k < n) where
-    field-opened : lastFields kind (fieldCount kind - k) (drop here text)
-        ≡ cond (eqb b comma) (fieldThen (fieldIn (formOf kind k) (drop (here + 1) text)) (lastFields kind (fieldCount kind - (k + 1)))) malformed
-    unfolding lastFields
-    field-opened =
-        let e : fieldCount kind - k ≡ suc (fieldCount kind - (k + 1)) = omega arith in
-        let f : fieldCount kind - suc (fieldCount kind - (k + 1)) ≡ k = omega arith in
-        rw (e, f, front-at text here is, drop-drop 1 here text)
+  pub no-comma : {values : List ℕ} → (b ≡ comma → ⊥) → Stopped values
+  no-comma h = stops (rw (opened, ne-eqb _ _ h))
 
-    pub no-comma : (b ≡ comma → ⊥) → lastFields kind (fieldCount kind) (drop at text) ≡ malformed
-    no-comma h = rw (read .reading, field-opened, ne-eqb _ _ h)
+  -- its form is `form`
+  module _ (separated : b ≡ comma) {form : FieldForm} {i : ℕ} (e : form ≡ formOf kind i) (place : i ≡ k) where
+    goes : fieldsIn (drop k (forms kind)) (drop at text) ≡ fieldThen (fieldIn form (drop (at + 1) text)) (fieldsIn (drop (suc k) (forms kind)))
+    goes = rw (opened, eq-eqb _ _ separated, e, place)
 
-    module _ (separated : b ≡ comma) {form : FieldForm} (e : form ≡ formOf kind k) where
-      pub no-field : fieldIn form (drop (here + 1) text) ≡ none → lastFields kind (fieldCount kind) (drop at text) ≡ malformed
-      unfolding fieldThen
-      no-field h = rw (read .reading, field-opened, eq-eqb _ _ separated, ← e, h)
+    pub no-field : {values : List ℕ} → fieldIn form (drop (at + 1) text) ≡ none → Stopped values
+    unfolding fieldThen
+    no-field h = stops (rw (goes, h))
 
-      pub field-goes : {value end : ℕ} → fieldIn form (drop (here + 1) text) ≡ field value (drop end text)
-          → Read kind n text at (set values k value) end (k + 1)
-      unfolding fieldThen
-      field-goes {value} {end} h =
-          let stored : k < length values = omega (arith, fields-few kind) in
-          record {
-            count = read .count;
-            most = omega arith;
-            places = rw length-set (read .places);
-            reading = rw (read .reading, field-opened, eq-eqb _ _ separated, ← e, h, one-more, add-one k, take-suc-set values k value stored);
-          }
+    pub field-goes : {value end : ℕ} → length (before .values) ≡ maxFields → fieldIn form (drop (at + 1) text) ≡ field value (drop end text)
+        → Step kind text at before (record { values = set (before .values) i value; left = before .left - 1; end = end })
+    unfolding lineOf fieldThen
+    field-goes {value} {end} places h =
+        let stored : k < length (before .values) = omega (arith, fields-few kind) in
+        let next : fieldCount kind - (before .left - 1) ≡ suc k = omega arith in
+        record { fewer = omega arith; same = rw (goes, h, one-more, next, place, take-suc-set (before .values) k value stored) }
 
-  module _ (done : n ≤ k) where
-    end-opened : lastFields kind (fieldCount kind) (drop at text)
-        ≡ withFields (take (fieldCount kind) values) (cond (eqb b lineFeed) (line [] (drop (here + 1) text)) malformed)
-    unfolding lastFields
-    end-opened =
-        let e : k ≡ fieldCount kind = omega arith in
-        rw e at (read .reading) ∙ rw (sub-self, front-at text here is, drop-drop 1 here text)
+none-before : (l : Line) → l ≡ withFields [] l
+none-before malformed = refl
+none-before (line ws rest) = refl
 
-    pub no-line-feed : (b ≡ lineFeed → ⊥) → lastFields kind (fieldCount kind) (drop at text) ≡ malformed
-    no-line-feed h = rw (end-opened, ne-eqb _ _ h)
+-- from a line of which nothing is read to one of which only the line feed may be left
+module _ (kind : LineKind) (text : List ℕ) (begun reading : Reading) (all : begun .left ≡ fieldCount kind) (done : reading .left ≡ 0)
+    (same : lineOf kind text (reading .end) reading ≡ lineOf kind text (begun .end) begun) {b : ℕ} (is : b ≡ getD text (reading .end) 0) where
+  end-opened : fieldsIn (forms kind) (drop (begun .end) text)
+      ≡ withFields (take (fieldCount kind) (reading .values)) (cond (eqb b lineFeed) (line [] (drop (reading .end + 1) text)) malformed)
+  unfolding lineOf fieldsIn
+  end-opened =
+      none-before _ ∙ sym (rw (all, done, sub-self, sub-zero) at same)
+      ∙ rw (drop-length (forms kind), front-at text (reading .end) is, drop-drop 1 (reading .end) text)
 
-    pub line-read : b ≡ lineFeed → lastFields kind (fieldCount kind) (drop at text) ≡ line (take (fieldCount kind) values) (drop (here + 1) text)
-    line-read h = rw (end-opened, eq-eqb _ _ h, append-nil)
+  pub no-line-feed : (b ≡ lineFeed → ⊥) → fieldsIn (forms kind) (drop (begun .end) text) ≡ malformed
+  no-line-feed h = rw (end-opened, ne-eqb _ _ h)
+
+  pub line-read : b ≡ lineFeed → fieldsIn (forms kind) (drop (begun .end) text) ≡ line (take (fieldCount kind) (reading .values)) (drop (reading .end + 1) text)
+  line-read h = rw (end-opened, eq-eqb _ _ h, append-nil)
 
 -- ---- a line, by the length r of its name where that stands
 
@@ -177,8 +146,8 @@ module _ (kind : LineKind) (text : List ℕ) (at : ℕ) {r : ℕ} (e : r ≡ con
   unfolding lineIn
   unnamed-line = unnamed (begins (name kind) (drop at text)) (length (name kind)) r _ (leb→le _ _ (sized kind .0)) e
 
-  pub named-line : (r ≡ 0 → ⊥) → lineIn kind (drop at text) ≡ lastFields kind (fieldCount kind) (drop (at + r) text)
+  pub named-line : (r ≡ 0 → ⊥) → lineIn kind (drop at text) ≡ fieldsIn (forms kind) (drop (at + r) text)
   unfolding lineIn
   named-line h =
-      let rest : ℕ → Line = λ n. lastFields kind (fieldCount kind) (drop n (drop at text)) in
+      let rest : ℕ → Line = λ n. fieldsIn (forms kind) (drop n (drop at text)) in
       named (begins (name kind) (drop at text)) (length (name kind)) r rest e h ∙ rw (drop-drop r at text)

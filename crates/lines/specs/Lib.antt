@@ -1,2 +1,2 @@
-pub mod LineForm
 pub mod Found
+pub mod Reading

@@ -1,16 +1,29 @@
 // Lines of a text: a name, fields with a comma before each, LF.
 use fields::Field;
 use fields::byte;
+use fields::name_at;
 use fields::read_field;
 use model::FieldForm;
 use model::LineKind;
+use model::limits::MAX_CLIPS;
+use model::limits::MAX_JOINTS;
+use model::limits::MAX_NODES;
+use model::limits::MAX_PARAMETERS;
+use model::limits::MAX_SAMPLES;
+use model::limits::MAX_STATES;
+use model::limits::MAX_TRANSITIONS;
+use model::limits::MAX_WORD;
 ghost use mathlib.Core.Path.{_≡_};
 ghost use mathlib.Core.Bool.{cond};
 ghost use Prim.Native.Nat.{_-_, _≤_};
 ghost use lib.ListN.{length, take, drop};
-ghost use Rattle.model.specs.Text.{decimalCount, bitsCount, fieldCount, formOf, name, begins, lastFields, lineIn};
-ghost use Rattle.lines.specs.LineForm.{lineForm};
+ghost use Rattle.model.specs.Text.{name, begins, forms, fieldCount, formOf, fieldsIn, lineIn};
+ghost use Rattle.model.specs.declared.FieldForm.the-variants as FieldForm;
 ghost use Rattle.lines.specs.Found.{lineFound};
+ghost use Rattle.lines.specs.Reading.{lineOf, Step};
+
+// No line has more fields.
+pub const MAX_FIELDS: usize = 8;
 
 // The place behind a line's LF.
 pub enum LineEnd {
@@ -18,99 +31,172 @@ pub enum LineEnd {
     Malformed,
 }
 
-// ---- the forms of lines
+// ---- the kinds of line
 
-// A kind's name and its length, the upper limits of its decimals and how many these are, and how many float bits follow. Zeros fill up the arrays.
-struct LineForm([u8; 6], usize, [u16; 5], usize, usize);
-
-fn line_form(kind: LineKind) -> LineForm
-    ensures { λ r. ⌜ r ≡ lineForm kind ⌝ }
+// The length of the kind's name if that stands at `at`, else 0; it stands inside the text.
+fn kind_at(text: &[u8], at: usize, kind: LineKind) -> usize
+    ensures { λ r. ⌜ r ≡ cond (begins (name kind) (drop at (now (text .entry)))) (length (name kind)) 0 ⌝ }
+    ensures { λ r. ⌜ r ≤ length (now (text .entry)) - at ⌝ }
 {
     match kind {
-        LineKind::Figure => LineForm(*b"figure", 6, [64, 16, 32, 16, 65535], 5, 0),
-        LineKind::Joint => LineForm(*b"joint\0", 5, [65535, 0, 0, 0, 0], 1, 0),
-        LineKind::Clip => LineForm(*b"clip\0\0", 4, [4096, 0, 0, 0, 0], 1, 1),
-        LineKind::State => LineForm(*b"state\0", 5, [31, 16, 0, 0, 0], 2, 0),
-        LineKind::Node => LineForm(*b"node\0\0", 4, [65535, 65535, 65535, 65535, 0], 4, 0),
-        LineKind::Go => LineForm(*b"go\0\0\0\0", 2, [65535, 65535, 65535, 0, 0], 3, 2),
-        LineKind::Pose => LineForm(*b"pose\0\0", 4, [0, 0, 0, 0, 0], 0, 8),
+        LineKind::Figure => name_at(text, at, b"figure"),
+        LineKind::Joint => name_at(text, at, b"joint"),
+        LineKind::Clip => name_at(text, at, b"clip"),
+        LineKind::State => name_at(text, at, b"state"),
+        LineKind::Node => name_at(text, at, b"node"),
+        LineKind::Go => name_at(text, at, b"go"),
+        LineKind::Pose => name_at(text, at, b"pose"),
     }
 }
 
-pub fn decimal_count(kind: LineKind) -> usize
-    ensures { λ r. ⌜ r ≡ decimalCount kind ⌝ }
+pub fn field_count(kind: LineKind) -> usize
+    ensures { λ r. ⌜ r ≡ fieldCount kind ⌝ }
 {
-    line_form(kind).3
+    match kind {
+        LineKind::Figure => 5,
+        LineKind::Joint => 1,
+        LineKind::Clip => 2,
+        LineKind::State => 2,
+        LineKind::Node => 4,
+        LineKind::Go => 5,
+        LineKind::Pose => MAX_FIELDS,
+    }
 }
 
-pub fn bits_count(kind: LineKind) -> usize
-    ensures { λ r. ⌜ r ≡ bitsCount kind ⌝ }
+fn decimal(limit: u16) -> FieldForm
+    ensures { λ r. ⌜ r ≡ FieldForm.Decimal limit ⌝ }
 {
-    line_form(kind).4
+    FieldForm::Decimal { limit }
 }
 
-// Of field k.
-fn field_form(kind: LineKind, k: usize) -> FieldForm
+// Of field k, in the order of the line's fields.
+pub fn field_form(kind: LineKind, k: usize) -> FieldForm
     ensures { λ r. ⌜ r ≡ formOf kind k ⌝ }
 {
-    if k < decimal_count(kind) {
-        let limits = line_form(kind).2;
-        return FieldForm::Decimal { limit: limits[k] };
+    match kind {
+        LineKind::Figure => match k {
+            0 => decimal(MAX_JOINTS as u16),
+            1 => decimal(MAX_CLIPS as u16),
+            2 => decimal(MAX_PARAMETERS as u16),
+            3 => decimal(MAX_STATES as u16),
+            4 => decimal(MAX_WORD as u16),
+            _ => FieldForm::Bits,
+        },
+        LineKind::Joint => match k {
+            0 => decimal(MAX_WORD as u16),
+            _ => FieldForm::Bits,
+        },
+        LineKind::Clip => match k {
+            0 => decimal(MAX_SAMPLES as u16),
+            _ => FieldForm::Bits,
+        },
+        LineKind::State => match k {
+            0 => decimal(MAX_NODES as u16),
+            1 => decimal(MAX_TRANSITIONS as u16),
+            _ => FieldForm::Bits,
+        },
+        LineKind::Node => match k {
+            0..4 => decimal(MAX_WORD as u16),
+            _ => FieldForm::Bits,
+        },
+        LineKind::Go => match k {
+            0..3 => decimal(MAX_WORD as u16),
+            _ => FieldForm::Bits,
+        },
+        LineKind::Pose => FieldForm::Bits,
     }
-    FieldForm::Bits
 }
 
 // ---- reading one
 
-// The length of the kind's name if that stands at `at`, else 0; it stands inside the text.
-fn name_at(text: &[u8], at: usize, kind: LineKind) -> usize
-    ensures { λ r. ⌜ r ≡ cond (begins (name kind) (drop at (now (text .entry)))) (length (name kind)) 0 ⌝ }
-    ensures { λ r. ⌜ r ≤ length (now (text .entry)) - at ⌝ }
-{
-    let form = line_form(kind);
-    let name = form.0;
-    let length = form.1;
-    let mut i = 0;
-    while i < length {
-        if byte(text, at + i) != name[i] {
-            return 0;
-        }
-        i += 1;
-    }
-    length
+// What is read of a line: the values, how many fields are left, and the place behind what is read.
+struct Reading {
+    values: [usize; MAX_FIELDS],
+    left: usize,
+    end: usize,
 }
 
-// The fields from `at` on, and the line's end. They are read into an array of this function's own, since behind a reference an array's length is not known.
-fn fields_at(text: &[u8], at: usize, kind: LineKind, values: &mut [usize; 8]) -> LineEnd
-    ensures { λ r. ⌜ lineFound (now (text .entry)) (take (fieldCount kind) (now (values .exit))) r (lastFields kind (fieldCount kind) (drop at (now (text .entry)))) ⌝ }
+// A comma and the first of the fields that are left. Where they do not stand nothing is left, and the place is the text's end, which is no line's end.
+fn field_at(text: &[u8], at: usize, kind: LineKind, reading: Reading) -> Reading
+    requires { ⌜ (1 ≤ reading .left) × (reading .left ≤ fieldCount kind) ⌝ }
+    ensures { λ r. ⌜ Step kind (now (text .entry)) at reading r ⌝ }
 {
-    let count = decimal_count(kind) + bits_count(kind);
-    let mut read = [0usize; 8];
-    let mut here = at;
-    let mut k = 0;
-    while k < count {
-        if byte(text, here) != b',' {
-            return LineEnd::Malformed;
+    let left = reading.left;
+    let k = field_count(kind) - left;
+    let mut values = reading.values;
+    if byte(text, at) == b',' {
+        let field = read_field(text, at + 1, field_form(kind, k));
+        if let Field::Value { value, end } = field {
+            values[k] = value;
+            return Reading {
+                values,
+                left: left - 1,
+                end,
+            };
         }
-        let field = read_field(text, here + 1, field_form(kind, k));
-        let Field::Value { value, end } = field else {
-            return LineEnd::Malformed;
-        };
-        read[k] = value;
-        here = end;
-        k += 1;
     }
-    if byte(text, here) != b'\n' {
+    Reading {
+        values,
+        left: 0,
+        end: text.len(),
+    }
+}
+
+// ---- the cursor: a text and a place in it, held together
+
+struct Fields<'a> {
+    text: &'a [u8],
+    at: usize,
+}
+
+// The first of the fields that are left, where the cursor stands.
+fn next<'a>(fields: Fields<'a>, kind: LineKind, reading: Reading) -> Reading
+    requires { ⌜ (1 ≤ reading .left) × (reading .left ≤ fieldCount kind) ⌝ }
+    ensures { λ r. ⌜ Step kind (now (fields .entry .text)) (fields .entry .at) reading r ⌝ }
+{
+    field_at(fields.text, fields.at, kind, reading)
+}
+
+// The fields that are left, read through one cursor.
+fn read_fields(text: &[u8], kind: LineKind, begun: Reading) -> Reading
+    requires { ⌜ begun .left ≤ fieldCount kind ⌝ }
+    ensures { λ r. ⌜ (r .left ≡ 0) × (lineOf kind (now (text .entry)) (r .end) r ≡ lineOf kind (now (text .entry)) (begun .end) begun) ⌝ }
+{
+    let mut cursor = Fields {
+        text,
+        at: begun.end,
+    };
+    let mut reading = begun;
+    while reading.left > 0 {
+        reading = next(cursor, kind, reading);
+        cursor.at = reading.end;
+    }
+    reading
+}
+
+// The fields from `at` on, and the line's end.
+fn fields_at(text: &[u8], at: usize, kind: LineKind, values: &mut [usize; MAX_FIELDS]) -> LineEnd
+    ensures { λ r. ⌜ lineFound (now (text .entry)) (take (fieldCount kind) (now (values .exit))) r (fieldsIn (forms kind) (drop at (now (text .entry)))) ⌝ }
+{
+    let begun = Reading {
+        values: [0; MAX_FIELDS],
+        left: field_count(kind),
+        end: at,
+    };
+    let reading = read_fields(text, kind, begun);
+    let end = reading.end;
+    if byte(text, end) != b'\n' {
         return LineEnd::Malformed;
     }
+    let read = reading.values;
     *values = read;
-    LineEnd::At(here + 1)
+    LineEnd::At(end + 1)
 }
 
-pub fn line_at(text: &[u8], at: usize, kind: LineKind, values: &mut [usize; 8]) -> LineEnd
+pub fn line_at(text: &[u8], at: usize, kind: LineKind, values: &mut [usize; MAX_FIELDS]) -> LineEnd
     ensures { λ r. ⌜ lineFound (now (text .entry)) (take (fieldCount kind) (now (values .exit))) r (lineIn kind (drop at (now (text .entry)))) ⌝ }
 {
-    let length = name_at(text, at, kind);
+    let length = kind_at(text, at, kind);
     if length == 0 {
         return LineEnd::Malformed;
     }

@@ -9,13 +9,13 @@ returns : tie.Need-returns
 unfolding lineFound
 returns c =
     let a = c .before .before .before .args in
-    unnamed-line (a .kind) (a .text .now) (a .at) (c .before .name-at .ensures .0) (c .if1 .taken)
+    unnamed-line (a .kind) (a .text .now) (a .at) (c .before .kind-at .ensures .0) (c .if1 .taken)
 
 returns-2 : tie.Need-returns-2
 returns-2 c =
     let n = c .before .before .before in
     let a = n .before .before .args in
-    rw (named-line (a .kind) (a .text .now) (a .at) (n .name-at .ensures .0) (c .before .before .if1 .left)) (c .fields-at .ensures)
+    rw (named-line (a .kind) (a .text .now) (a .at) (n .kind-at .ensures .0) (c .before .before .if1 .left)) (c .fields-at .ensures)
 
 pub line-at-spec : {M : Type 1} → statement M
 line-at-spec = tie.close (tie.spec (search needs) returns (search needs) (search needs) returns-2)
