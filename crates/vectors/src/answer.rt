@@ -4,21 +4,30 @@ use model::Pose;
 use model::Quaternion;
 use model::Row;
 use model::Vector3;
+use model::limits::MATRIX_FLOATS;
+use model::limits::POSE_FLOATS;
 ghost use Prim.Native.Nat.{_≤_};
+ghost use Rattle.vectors.specs.Sizes.{maxOperands};
+
+// The most words that a row has, which are two matrices, and an answer, which are one.
+pub const MAX_OPERANDS: usize = 2 * MATRIX_FLOATS;
+
+pub const MAX_WORDS: usize = MATRIX_FLOATS;
 
 // How many words follow a letter: 0 if it is none of ours.
 pub fn operand_count(letter: u8) -> usize
-    ensures { λ r. ⌜ r ≤ 32 ⌝ }
+    ensures { λ r. ⌜ r ≤ maxOperands ⌝ }
 {
     match letter {
         b'i' | b'w' | b'd' | b'u' => 1,
         b'n' | b'x' => 2,
         b'm' => 4,
-        b'M' => 8,
+        b'M' => POSE_FLOATS,
         b'l' => 9,
-        b'q' | b'Q' | b'c' => 16,
-        b'L' => 17,
-        b'p' => 32,
+        b'q' | b'Q' => MATRIX_FLOATS,
+        b'c' => 2 * POSE_FLOATS,
+        b'L' => 2 * POSE_FLOATS + 1,
+        b'p' => MAX_OPERANDS,
         _ => 0,
     }
 }
@@ -26,7 +35,7 @@ pub fn operand_count(letter: u8) -> usize
 // The first `count` of `words` are the answer.
 pub struct Answer {
     pub count: usize,
-    pub words: [u32; 16],
+    pub words: [u32; MAX_WORDS],
 }
 
 // 0 past the end, so that no reader below asks how many words there are. Each reads from the first word on.
@@ -105,20 +114,20 @@ fn matrix_at(words: &[u32]) -> Matrix4 {
 }
 
 fn float_answer(x: f32) -> Answer {
-    let mut words = [0u32; 16];
+    let mut words = [0u32; MAX_WORDS];
     words[0] = float::f32_to_bits(x);
     Answer { count: 1, words }
 }
 
 fn pair_answer(n: u64) -> Answer {
-    let mut words = [0u32; 16];
+    let mut words = [0u32; MAX_WORDS];
     words[0] = (n / 0x1_0000_0000) as u32;
     words[1] = (n % 0x1_0000_0000) as u32;
     Answer { count: 2, words }
 }
 
 fn quaternion_answer(q: Quaternion) -> Answer {
-    let mut words = [0u32; 16];
+    let mut words = [0u32; MAX_WORDS];
     words[0] = float::f32_to_bits(q.w);
     words[1] = float::f32_to_bits(q.x);
     words[2] = float::f32_to_bits(q.y);
@@ -127,7 +136,7 @@ fn quaternion_answer(q: Quaternion) -> Answer {
 }
 
 fn pose_answer(p: Pose) -> Answer {
-    let mut words = [0u32; 16];
+    let mut words = [0u32; MAX_WORDS];
     words[0] = float::f32_to_bits(p.translation.x);
     words[1] = float::f32_to_bits(p.translation.y);
     words[2] = float::f32_to_bits(p.translation.z);
@@ -136,11 +145,14 @@ fn pose_answer(p: Pose) -> Answer {
     words[5] = float::f32_to_bits(p.rotation.x);
     words[6] = float::f32_to_bits(p.rotation.y);
     words[7] = float::f32_to_bits(p.rotation.z);
-    Answer { count: 8, words }
+    Answer {
+        count: POSE_FLOATS,
+        words,
+    }
 }
 
 fn matrix_answer(m: Matrix4) -> Answer {
-    let mut words = [0u32; 16];
+    let mut words = [0u32; MAX_WORDS];
     words[0] = float::f32_to_bits(m.r0.c0);
     words[1] = float::f32_to_bits(m.r0.c1);
     words[2] = float::f32_to_bits(m.r0.c2);
@@ -157,16 +169,19 @@ fn matrix_answer(m: Matrix4) -> Answer {
     words[13] = float::f32_to_bits(m.r3.c1);
     words[14] = float::f32_to_bits(m.r3.c2);
     words[15] = float::f32_to_bits(m.r3.c3);
-    Answer { count: 16, words }
+    Answer {
+        count: MATRIX_FLOATS,
+        words,
+    }
 }
 
 fn no_answer() -> Answer {
-    let words = [0u32; 16];
+    let words = [0u32; MAX_WORDS];
     Answer { count: 0, words }
 }
 
 // The letters of math and transform.
-fn rotation_answer(letter: u8, words: [u32; 32]) -> Answer {
+fn rotation_answer(letter: u8, words: [u32; MAX_OPERANDS]) -> Answer {
     match letter {
         b'i' => float_answer(math::inv_sqrt(float_at(&words, 0))),
         b'l' => quaternion_answer(math::lerp_quaternion(
@@ -176,20 +191,23 @@ fn rotation_answer(letter: u8, words: [u32; 32]) -> Answer {
         )),
         b'm' => matrix_answer(math::quaternion_to_matrix(quaternion_at(&words))),
         b'q' => quaternion_answer(math::matrix_to_quaternion(matrix_at(&words))),
-        b'p' => matrix_answer(math::row_mat4_mul(matrix_at(&words), matrix_at(&words[16..]))),
+        b'p' => matrix_answer(math::row_mat4_mul(
+            matrix_at(&words),
+            matrix_at(&words[MATRIX_FLOATS..]),
+        )),
         b'L' => pose_answer(transform::lerp(
             pose_at(&words),
-            pose_at(&words[8..]),
-            float_at(&words, 16),
+            pose_at(&words[POSE_FLOATS..]),
+            float_at(&words, 2 * POSE_FLOATS),
         )),
-        b'c' => pose_answer(transform::concat(pose_at(&words), pose_at(&words[8..]))),
+        b'c' => pose_answer(transform::concat(pose_at(&words), pose_at(&words[POSE_FLOATS..]))),
         b'M' => matrix_answer(transform::to_matrix(pose_at(&words))),
         b'Q' => pose_answer(transform::from_matrix(matrix_at(&words))),
         _ => no_answer(),
     }
 }
 
-pub fn answer_to(letter: u8, words: [u32; 32]) -> Answer {
+pub fn answer_to(letter: u8, words: [u32; MAX_OPERANDS]) -> Answer {
     match letter {
         b'w' => pair_answer(float::f64_to_bits(float::widen(float_at(&words, 0)))),
         b'n' => float_answer(float::narrow(float::f64_from_bits(pair_at(&words)))),

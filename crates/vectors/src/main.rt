@@ -3,10 +3,13 @@
 mod answer;
 mod text;
 
+use answer::MAX_OPERANDS;
 use answer::answer_to;
 use answer::operand_count;
 use libc::STDIN_FILENO;
 use libc::STDOUT_FILENO;
+use text::ROW_SIZE;
+use text::WORD_SIZE;
 use text::parse;
 use text::print_words;
 
@@ -17,13 +20,13 @@ fn print_malformed(row: u64) {
 }
 
 // Reads what follows the letter. False if the letter is unknown, or the row is cut or malformed.
-fn read_operands(letter: u8, words: &mut [u32; 32]) -> bool {
-    let mut row = [0u8; 289];
+fn read_operands(letter: u8, words: &mut [u32; MAX_OPERANDS]) -> bool {
+    let mut row = [0u8; ROW_SIZE];
     let count = operand_count(letter);
     if count == 0 {
         return false;
     }
-    let size = 9 * count + 1;
+    let size = WORD_SIZE * count + 1;
     let n = io::read_full(STDIN_FILENO, &mut row[..size]);
     if n != size {
         return false;
@@ -37,7 +40,7 @@ fn answer_row(row: u64) -> bool {
     if io::read_full(STDIN_FILENO, &mut letter) == 0 {
         return false;
     }
-    let mut words = [0u32; 32];
+    let mut words = [0u32; MAX_OPERANDS];
     if !read_operands(letter[0], &mut words) {
         print_malformed(row);
         return false;

@@ -1,7 +1,23 @@
 // The text of a row's operands and of an answer's words: eight lower-case hexadecimal digits each.
+use crate::answer::MAX_OPERANDS;
+use crate::answer::MAX_WORDS;
 use libc::STDOUT_FILENO;
 ghost use mathlib.Core.Path.{_≡_};
 ghost use lib.ListN.{length};
+ghost use Rattle.vectors.specs.Sizes.{lineSize};
+
+const WORD_DIGITS: usize = 8;
+
+// With a comma.
+pub const WORD_SIZE: usize = 1 + WORD_DIGITS;
+
+// The longest row behind its letter, which ends with LF, and the longest answer.
+pub const ROW_SIZE: usize = WORD_SIZE * MAX_OPERANDS + 1;
+
+// No word of a row begins behind this.
+const LAST_WORD_AT: usize = ROW_SIZE - WORD_SIZE;
+
+const LINE_SIZE: usize = WORD_SIZE * MAX_WORDS;
 
 // 16 for a byte that is no digit.
 fn digit_value(b: u8) -> u32 {
@@ -20,8 +36,8 @@ enum Word {
 }
 
 // A comma and eight digits, from `at` on.
-fn word_at(row: &[u8; 289], at: usize) -> Word {
-    if 280 < at {
+fn word_at(row: &[u8; ROW_SIZE], at: usize) -> Word {
+    if LAST_WORD_AT < at {
         return Word::Malformed;
     }
     if row[at] != b',' {
@@ -29,7 +45,7 @@ fn word_at(row: &[u8; 289], at: usize) -> Word {
     }
     let mut value: u32 = 0;
     let mut i: usize = 1;
-    while i < 9 {
+    while i < WORD_SIZE {
         let d = digit_value(row[at + i]);
         if 15 < d {
             return Word::Malformed;
@@ -41,20 +57,20 @@ fn word_at(row: &[u8; 289], at: usize) -> Word {
 }
 
 // Puts the operands into `words`, and answers whether the row has them all and then ends.
-pub fn parse(row: &[u8; 289], count: usize, words: &mut [u32; 32]) -> bool {
-    if 32 < count {
+pub fn parse(row: &[u8; ROW_SIZE], count: usize, words: &mut [u32; MAX_OPERANDS]) -> bool {
+    if MAX_OPERANDS < count {
         return false;
     }
     let mut i: usize = 0;
     while i < count {
-        let word = word_at(row, 9 * i);
+        let word = word_at(row, WORD_SIZE * i);
         let Word::Value(value) = word else {
             return false;
         };
         words[i] = value;
         i += 1;
     }
-    row[9 * count] == b'\n'
+    row[WORD_SIZE * count] == b'\n'
 }
 
 fn digit(value: u32) -> u8 {
@@ -74,27 +90,30 @@ fn put_word(word: u32, out: &mut [u8]) {
 }
 
 // The words, with a comma after each.
-fn joined(words: [u32; 16]) -> [u8; 144]
-    ensures { λ r. ⌜ 144 ≡ length r ⌝ }
+fn joined(words: [u32; MAX_WORDS]) -> [u8; LINE_SIZE]
+    ensures { λ r. ⌜ lineSize ≡ length r ⌝ }
 {
-    let mut line = [b','; 144];
+    let mut line = [b','; LINE_SIZE];
     let mut i: usize = 0;
-    while i < 16 {
-        put_word(words[i], &mut line[9 * i..9 * i + 8]);
+    while i < MAX_WORDS {
+        put_word(
+            words[i],
+            &mut line[WORD_SIZE * i..WORD_SIZE * i + WORD_DIGITS],
+        );
         i += 1;
     }
     line
 }
 
-// Prints the first `count` words, from 1 to 16, as a line. False for another count, or if it cannot be written.
-pub fn print_words(words: [u32; 16], count: usize) -> bool {
+// Prints the first `count` words, from 1 on, as a line. False for another count, or if it cannot be written.
+pub fn print_words(words: [u32; MAX_WORDS], count: usize) -> bool {
     if count == 0 {
         return false;
     }
-    if 16 < count {
+    if MAX_WORDS < count {
         return false;
     }
     let mut line = joined(words);
-    line[9 * count - 1] = b'\n';
-    io::write_all(STDOUT_FILENO, &line[..9 * count])
+    line[WORD_SIZE * count - 1] = b'\n';
+    io::write_all(STDOUT_FILENO, &line[..WORD_SIZE * count])
 }

@@ -1,4 +1,4 @@
--- `vectors::read_operands` is safe: a row has at most 32 operands, so what is read fits the array. Assumes nothing.
+-- `vectors::read_operands` is safe: a row has few operands, so what is read fits the array. Assumes nothing.
 use mathlib.Core.Path.{sym}
 use native.Mathlib.Omega.{arith}
 use lib.Seq.{length-take-le}

@@ -1,22 +1,23 @@
--- `vectors::text::joined` is safe and ends, and its line has 144 bytes: each word's part comes back as long as it was lent. Assumes nothing.
+-- `vectors::text::joined` is safe and ends, and its line has lineSize bytes: each word's part comes back as long as it was lent. Assumes nothing.
 use borrow.Author.Needs.{needs}
 use Prim.Native.Nat.{ℕ, _≤_, _+_, _*_, _-_}
 use lib.ListN.{length}
 use mathlib.Core.Path.{_≡_, sym, _∙_}
 use borrow.Rule.Slice.PartMut.{same-len-mid}
+use Rattle.vectors.specs.Sizes.{maxWords, wordSize, lineSize}
 use Rattle.vectors.proofs.text.joined.Statement.{statement}
 use Rattle.vectors.proofs.text.joined.Tie as tie
 
 abbrev Inv-loop : tie.InvT-loop
-Inv-loop words line₀ i₀ line i = (i ≤ 16) × (144 ≡ length line)
+Inv-loop words line₀ i₀ line i = (i ≤ maxWords) × (lineSize ≡ length line)
 
 abbrev μ-loop : tie.MeasureT-loop
-μ-loop words line₀ i₀ line i = 16 - i
+μ-loop words line₀ i₀ line i = maxWords - i
 
 loop-again : tie.Need-loop-again Inv-loop μ-loop
 loop-again c =
     let l = c .before .before .before .before .loop in
-    let at = 9 * l .i in
+    let at = wordSize * l .i in
     (search needs, l .inv .1 ∙ sym (same-len-mid {X = ℕ} at (at + 8 - at) (l .line) (c .before .put-word .last .1 .0) (c .before .put-word .kept .1 .0)))
 
 pub joined-spec : {M : Type 1} → statement M

@@ -1,0 +1,2 @@
+-- How long rows and answers are
+pub mod Sizes
