@@ -1,5 +1,5 @@
 -- What the check has seen of a node of a state: its words, its inputs, its slot. Assumes nothing.
-use Prim.Native.Nat.{ℕ, _<_}
+use Prim.Native.Nat.{ℕ, _≤_, _<_}
 use native.Mathlib.Omega.{arith}
 use mathlib.Core.Path.{_≡_, _∙_}
 use mathlib.Core.Bool.{true, false}
@@ -8,7 +8,7 @@ use lib.ListN.{length, getD}
 use lib.Ieee.{Float}
 use lib.Dec.{eqb}
 use borrow.Author.Tests.{eq-eqb, ne-eqb}
-use Rattle.model.specs.Plan.{maxClipNodes, clipCount, nodeCount, isClip, clipNode}
+use Rattle.model.specs.Plan.{maxParameters, maxNodes, maxClipNodes, clipCount, nodeCount, isClip, clipNode}
 use Rattle.model.specs.Laws.State.{a-earlier, b-earlier, clip-below, parameter-below, few-clip-nodes}
 use Rattle.model.specs.Laws.Passed.{few-parameters}
 use Rattle.layout.specs.declared.Layout.{Layout}
@@ -40,7 +40,7 @@ module _ {plan : List ℕ} {here : StateLayout} {i : ℕ} (ok : Passes plan) (in
   counted : i < nodeCount plan (here .state)
   counted = rw (nodes-counted inside) at below
 
-  pub node-small : i < 32
+  pub node-small : i ≤ maxNodes
   node-small = omega (arith, nodes-few inside ok)
 
   module _ {slots : List ℕ} (given : Slots plan (here .state) slots) where
@@ -74,7 +74,7 @@ module _ {plan : List ℕ} {here : StateLayout} {i : ℕ} {words : Node} (r : No
     pub inputs-inside : (words .a < here .nodes) × (words .b < here .nodes)
     inputs-inside = omega (arith, inputs-before, r .below)
 
-    pub parameter-small : words .parameter < 32
+    pub parameter-small : words .parameter < maxParameters
     unfolding nodeOf
     parameter-small =
         rw (r .found) (omega (arith, parameter-below plan (here .state) (here-ok (r .state) (r .passes)) i (counted (r .passes) (r .state) (r .below)) e, few-parameters plan (r .passes .numbers) (r .passes .passed)))

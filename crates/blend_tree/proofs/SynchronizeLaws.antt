@@ -17,7 +17,7 @@ use Rattle.model.specs.Laws.Tests.{and-left, and-right}
 use Rattle.model.specs.Laws.ClipNodes.{first-clip-node, clip-counts, blend-counts-not}
 use Rattle.model.specs.Laws.State.{few-clip-nodes}
 use Rattle.model.specs.Laws.Passed.{state-passed}
-use Rattle.model.specs.Tree.{parameter, targetLength, isTouched, nodeLength, nodeTarget, inputSynchronized, synchronizeNode}
+use Rattle.model.specs.Tree.{parameter, targetLength, isTouched, nodeLength, nodeTarget, synchronizedRate, rateSet, inputSynchronized, synchronizeNode}
 use Rattle.layout.specs.declared.StateLayout.{StateLayout}
 use Rattle.layout.specs.declared.Node.{Node}
 use Rattle.layout.specs.Layout.{Passes, InPlan, nodeOf}
@@ -47,16 +47,18 @@ module _ (plan : List ℕ) (s i : ℕ) {n : Node} (e : n ≡ nodeOf plan s i) wh
       (lerp-no-clip (eqb-true _ _ (sym lerp-told ∙ and-left _ _ t)), rw e (and-left _ _ inputs), rw e (and-right (isClip plan s (inputA plan s i)) _ inputs))
 
   -- the two inputs one after the other
-  pub both-synchronized : (numbers parameters : List Float) (time la lb target : Float) (x y z : List Float)
+  pub both-synchronized : (numbers parameters : List Float) (time la lb target : Float) (ka kb : ℕ) (x y z : List Float)
       → isTouched plan s i ≡ true
       → la ≡ nodeLength plan numbers s (n .a)
       → lb ≡ nodeLength plan numbers s (n .b)
       → target ≡ targetLength (parameter parameters (n .parameter)) la lb
-      → y ≡ inputSynchronized plan numbers parameters time s (n .a) target x
-      → z ≡ inputSynchronized plan numbers parameters time s (n .b) target y
+      → ka ≡ clipNode plan s (n .a)
+      → kb ≡ clipNode plan s (n .b)
+      → y ≡ rateSet time ka (synchronizedRate la target) x
+      → z ≡ rateSet time kb (synchronizedRate lb target) y
       → z ≡ synchronizeNode plan numbers parameters time s i x
-  unfolding nodeOf nodeTarget synchronizeNode
-  both-synchronized numbers parameters time la lb target x y z t ea eb et ey ez = rw (t, ez, ey, et, ea, eb, e)
+  unfolding nodeOf nodeTarget inputSynchronized synchronizeNode
+  both-synchronized numbers parameters time la lb target ka kb x y z t ea eb et ca cb ey ez = rw (t, ez, ey, ca, cb, et, ea, eb, e)
 
 -- one slot more is filled
 pub filled-more : (slots : List ℕ) (i next : ℕ) (f : ℕ → ℕ) → i < length slots → ((k : ℕ) → k < i → getD slots k 0 ≡ f k) → next ≡ f i → (k : ℕ) → k < i + 1 → getD (set slots i next) k 0 ≡ f k

@@ -7,13 +7,14 @@ use lib.ListN.{length, getD}
 use lib.Ieee.{Float}
 use Rattle.model.specs.declared.Pose.{Pose}
 use Rattle.model.specs.Answers.{accepted}
-use Rattle.model.specs.Plan.{jointCount, nodeCount, clipNode}
+use Rattle.model.specs.Plan.{nodeCount, clipNode}
 use Rattle.model.specs.Check.{check}
 use Rattle.model.specs.Pose.{identityPose, lerp}
 use Rattle.model.specs.Tree.{additive, nodePoses}
 use Rattle.layout.specs.declared.Layout.{Layout}
 use Rattle.layout.specs.Layout.{layoutOf}
 use Rattle.lanes.specs.Lanes.{blockSize, laneAt}
+use Rattle.blend_tree.specs.declared.Joints.{Joints}
 
 -- lane i of the first `count` is the pose f i
 abbrev pub Filled : (ℕ → Pose) → ℕ → List Float → Type 0
@@ -26,10 +27,10 @@ pub record Playable (plan : List ℕ) (numbers : List Float) (layout : Layout) :
   pub passed : check plan (length numbers) ≡ accepted
   pub found : layout ≡ layoutOf plan
 
--- `count` joints of the plan from `first` on make up a block
-pub record InBlock (plan : List ℕ) (first count : ℕ) : Type 0 where
-  pub small : count ≤ blockSize
-  pub inside : first + count ≤ jointCount plan
+-- a block has room for this row of the plan's joints
+pub record InBlock (layout : Layout) (joints : Joints) : Type 0 where
+  pub small : joints .count ≤ blockSize
+  pub inside : joints .first + joints .count ≤ layout .joints
 
 -- slot i holds how many clip nodes of the plan come before node i of state s: its own number, if it is one
 pub record Slots (plan : List ℕ) (s : ℕ) (slots : List ℕ) : Type 0 where

@@ -1,19 +1,19 @@
 -- `blend_tree::poses::node_poses` meets its contract, by recursion on the node: the check has seen that a clip node's clip and instance are there, and
 -- that another node's inputs come before it and its parameter is there. Assumes nothing.
 use borrow.Author.Needs.{needs}
-use Prim.Native.Nat.{ℕ, _+_, _<_}
+use Prim.Native.Nat.{ℕ, _+_, _≤_, _<_}
 use native.Mathlib.Omega.{arith}
 use mathlib.Core.Path.{ap, _∙_}
 use lib.ListN.{getD}
 use borrow.Fn.Kinds.{In}
 use borrow.Fn.PlainCycle.{Measures, is, falls, and}
-use Rattle.model.specs.Plan.{maxClipNodes}
-use Rattle.model.specs.Clips.{localTime, instanceAt}
+use Rattle.model.specs.Plan.{maxParameters, maxNodes, maxClipNodes, clipCount}
+use Rattle.model.specs.Clips.{instanceAt}
 use Rattle.animation.proofs.instance_at.Reads as instance-at-reads
-use Rattle.animation.proofs.local_time.Reads as local-time-reads
 use Rattle.layout.proofs.node_at.Reads as node-at-reads
 use Rattle.blend_tree.proofs.NodeLaws.{passes, node-small, slot-found, slot-small, NodeRead, is-clip, no-clip, clip-inside, inputs-before, parameter-small}
 use Rattle.blend_tree.proofs.PoseLaws.{of-clip, of-inputs}
+use Rattle.blend_tree.proofs.sampling.clip_samples.Reads as clip-samples-reads
 use Rattle.blend_tree.proofs.poses.clip_poses.Reads as clip-poses-reads
 use Rattle.blend_tree.proofs.poses.combine_all.Reads as combine-all-reads
 use Rattle.blend_tree.proofs.poses.node_poses.Reads as reads
@@ -24,7 +24,7 @@ use Rattle.blend_tree.proofs.poses.+node_poses.Tie.{close}
 
 -- the argument `node`
 abbrev μ-node-poses : Measures 6 kinds.ps ℕ
-μ-node-poses κs a = a .1 .1 .1 .1 .1 .1 .1 .1 .1 .1 .0
+μ-node-poses κs a = a .1 .1 .1 .1 .1 .1 .1 .0
 
 abbrev node-poses-at : ℕ → In 6 kinds.ps
 node-poses-at t = and 6 kinds.ps (is 6 kinds.ps μ-node-poses t) reads.Pre
@@ -38,8 +38,8 @@ claims t = (
   node-at-reads.Learnt,
   instance-at-reads.Asked,
   instance-at-reads.Learnt,
-  local-time-reads.Asked,
-  local-time-reads.Learnt,
+  clip-samples-reads.Asked,
+  clip-samples-reads.Learnt,
   clip-poses-reads.Asked,
   clip-poses-reads.Learnt,
   node-poses-below t,
@@ -53,14 +53,15 @@ module _ (t : ℕ) where
   start c = c .before .before .before
 
   read : (c : lts.After-node-at (claims t) (node-poses-at t) reads.Post)
-      → let a = start c .args in NodeRead (a .plan .now) (a .here) (a .node) (c .node-at .result)
+      → let a = start c .args in NodeRead (a .plan .now) (a .state .here) (a .node) (c .node-at .result)
   read c =
       let r = start c .pre .1 in
       record { passes = passes (r .0); state = r .1; below = r .4; found = c .node-at .ensures }
 
-  small : (c : lts.After-node-at (claims t) (node-poses-at t) reads.Post) → start c .args .node < 32
+  small : (c : lts.After-node-at (claims t) (node-poses-at t) reads.Post) → start c .args .node ≤ maxNodes
   small c = let r = start c .pre .1 in node-small (passes (r .0)) (r .1) (r .4)
 
+  -- a clip node's instance and clip are there
   instance-there : (c : lts.After-instance-at-arg (claims t) (node-poses-at t) reads.Post)
       → let a = start (c .before .before .before) .args in getD (a .slots .now) (a .node) 0 < maxClipNodes
   instance-there c =
@@ -68,27 +69,40 @@ module _ (t : ℕ) where
       let r = start k .pre .1 in
       slot-small (passes (r .0)) (r .1) (r .4) (r .2) (is-clip _ _ _ (k .node-at .ensures) (c .before .if1 .taken))
 
+  clip-there : (c : lts.After-instance-at (claims t) (node-poses-at t) reads.Post)
+      → let k = c .before .before .before .before in k .node-at .result .a < clipCount (start k .args .plan .now)
+  clip-there c =
+      let i = c .before .before in
+      let k = i .before .before in
+      clip-inside (read k) (is-clip _ _ _ (k .node-at .ensures) (i .if1 .taken))
+
+  clip-samples-requires : lts.Need-clip-samples-requires (claims t) (node-poses-at t) reads.Post
+  clip-samples-requires c κs = (start (c .before .before .before .before) .pre .1 .0, clip-there c)
+
   clip-poses-requires : lts.Need-clip-poses-requires (claims t) (node-poses-at t) reads.Post
   clip-poses-requires c κs =
-      let i = c .before .before .before .before in
-      let k = i .before .before in
-      let r = start k .pre .1 in
-      (r .0, r .3, clip-inside (read k) (is-clip _ _ _ (k .node-at .ensures) (i .if1 .taken)))
+      let i = c .before .before in
+      let s = start (i .before .before .before .before) in
+      let r = s .pre .1 in
+      (record { plan = s .args .plan .now; c = _; position = _; playable = r .0; clip = clip-there i; found = c .before .clip-samples .ensures }, r .3)
 
   returns : lts.Need-returns (claims t) (node-poses-at t) reads.Post
   returns c j h =
-      let i = c .before .before .before .before .before in
+      let q = c .before .before in
+      let i = q .before .before .before in
       let k = i .before .before in
       let s = start k in
+      let r = s .pre .1 in
       c .clip-poses .ensures j h
-      ∙ of-clip (read k) (s .args .numbers .now) (s .args .parameters .now) (s .args .time) (s .args .instances .now) (s .args .first + j) _ (i .if1 .taken)
-      (c .before .before .local-time .ensures ∙ ap (λ n. localTime n (s .args .time)) (c .before .before .before .instance-at .ensures ∙ ap (instanceAt (s .args .instances .now)) (slot-found (passes (s .pre .1 .0)) (s .pre .1 .1) (s .pre .1 .4) (s .pre .1 .2))))
+      ∙ of-clip (read k) (s .args .numbers .now) (s .args .parameters .now) (s .args .state .time) (s .args .instances .now) (s .args .joints .first + j) (r .0) (i .if1 .taken)
+      (q .before .instance-at .ensures ∙ ap (instanceAt (s .args .instances .now)) (slot-found (passes (r .0)) (r .1) (r .4) (r .2))) (q .clip-samples .ensures)
 
   node-poses-requires : lts.Need-node-poses-requires (claims t) (node-poses-at t) reads.Post
   node-poses-requires c κs =
-      let k = c .before .before .before in
+      let e = c .before in
+      let k = e .before .before in
       let r = start k .pre .1 in
-      let less = inputs-before (read k) (no-clip _ _ _ (k .node-at .ensures) (c .before .if1 .left)) in
+      let less = inputs-before (read k) (no-clip _ _ _ (k .node-at .ensures) (e .if1 .left)) in
       (omega (arith, less, start k .pre .0), (r .0, r .1, r .2, r .3, omega (arith, less, r .4)))
 
   node-poses-requires-2 : lts.Need-node-poses-requires-2 (claims t) (node-poses-at t) reads.Post
@@ -100,7 +114,7 @@ module _ (t : ℕ) where
       (omega (arith, less, start k .pre .0), (r .0, r .1, r .2, r .3, omega (arith, less, r .4)))
 
   -- the parameter, after both inputs
-  parameter-known : (c : lts.After-node-poses2 (claims t) (node-poses-at t) reads.Post) → c .before .before .before .before .before .before .node-at .result .parameter < 32
+  parameter-known : (c : lts.After-node-poses2 (claims t) (node-poses-at t) reads.Post) → c .before .before .before .before .before .before .node-at .result .parameter < maxParameters
   parameter-known c =
       let e = c .before .before .before .before in
       let r = read (e .before .before) in
@@ -113,17 +127,17 @@ module _ (t : ℕ) where
       let k = a .before .before .before .before in
       let s = start k in
       c .combine-all .ensures j h
-      ∙ of-inputs (read k) (s .args .numbers .now) (s .args .parameters .now) (s .args .time) (s .args .instances .now) (s .args .first + j) (a .before .before .if1 .left) (a .node-poses .ensures j h) (b .node-poses2 .ensures j h)
+      ∙ of-inputs (read k) (s .args .numbers .now) (s .args .parameters .now) (s .args .state .time) (s .args .instances .now) (s .args .joints .first + j) (a .before .before .if1 .left) (a .node-poses .ensures j h) (b .node-poses2 .ensures j h)
 
 pub +node-poses-spec : {M : Type 1} → statement M
 +node-poses-spec =
     close μ-node-poses
     (λ t. lts.spec (claims t) (node-poses-at t) reads.Post
     (λ c κs. search needs)
-    (λ c. small t (c .before .before))
+    (λ c. omega (arith, small t (c .before .before)))
     (λ c. omega (arith, instance-there t c))
     (λ c κs. instance-there t c)
-    (λ c κs. search needs)
+    (clip-samples-requires t)
     (clip-poses-requires t)
     (returns t)
     (node-poses-requires t)

@@ -1,12 +1,12 @@
 -- `blend_tree::synchronize::clip_slots` meets its contract. Invariant: the slots below i are filled, and `next` is the clip node that comes at i. Assumes nothing.
 use borrow.Author.Needs.{needs}
 use borrow.Author.Count.{below-none}
-use Prim.Native.Nat.{ℕ, _-_, _≤_, _<_}
+use Prim.Native.Nat.{ℕ, suc, _-_, _≤_, _<_}
 use mathlib.Core.Path.{_≡_, _∙_}
 use native.Mathlib.Numerals.{add-one}
 use native.Mathlib.Omega.{arith}
 use lib.ListN.{length, getD, length-set}
-use Rattle.model.specs.Plan.{maxClipNodes, clipNode}
+use Rattle.model.specs.Plan.{maxNodes, maxClipNodes, clipNode}
 use Rattle.model.specs.Laws.ClipNodes.{first-clip-node}
 use Rattle.layout.proofs.Laws.{nodes-counted, clips-counted, nodes-few}
 use Rattle.blend_tree.proofs.SynchronizeLaws.{filled-more, few-next}
@@ -15,7 +15,7 @@ use Rattle.blend_tree.proofs.synchronize.clip_slots.Tie as tie
 
 abbrev Inv-loop : tie.InvT-loop
 Inv-loop plan here slots₀ next₀ i₀ slots next i =
-    (i ≤ here .nodes) × (length slots ≡ 32) × (next ≡ clipNode plan (here .state) i) × ((k : ℕ) → k < i → getD slots k 0 ≡ clipNode plan (here .state) k)
+    (i ≤ here .nodes) × (length slots ≡ suc maxNodes) × (next ≡ clipNode plan (here .state) i) × ((k : ℕ) → k < i → getD slots k 0 ≡ clipNode plan (here .state) k)
 
 abbrev μ-loop : tie.MeasureT-loop
 μ-loop plan here slots₀ next₀ i₀ slots next i = here .nodes - i
@@ -28,7 +28,7 @@ loop-holds c =
     let p = c .before .before .before .before .pre in
     (omega arith, search needs, clips-counted (p .1) ∙ first-clip-node _ _, below-none _)
 
-few : (c : tie.At-loop Inv-loop μ-loop) → start c .args .here .nodes ≤ 31
+few : (c : tie.At-loop Inv-loop μ-loop) → start c .args .here .nodes ≤ maxNodes
 few c = let p = start c .pre in nodes-few (p .1) (p .0)
 
 small : (c : tie.At-loop Inv-loop μ-loop) → c .loop .next ≤ maxClipNodes

@@ -10,7 +10,7 @@ use Rattle.blend_tree.proofs.synchronize.node_length.Tie as tie
 node-at-requires : tie.Need-node-at-requires
 node-at-requires c κs = let p = c .before .before .pre in (passes (p .0), p .1, p .2)
 
-read : (c : tie.After-node-at) → let a = c .before .before .before .args in NodeRead (a .plan .now) (a .here) (a .i) (c .node-at .result)
+read : (c : tie.After-node-at) → let a = c .before .before .before .args in NodeRead (a .plan .now) (a .state .here) (a .i) (c .node-at .result)
 read c = let p = c .before .before .before .pre in record { passes = passes (p .0); state = p .1; below = p .2; found = c .node-at .ensures }
 
 sample-count-requires : tie.Need-sample-count-requires
@@ -20,7 +20,7 @@ sample-count-requires c κs =
 
 returns : tie.Need-returns
 unfolding duration nodeLength nodeOf
-returns c = rw (c .duration .ensures, c .before .rate .ensures, c .before .before .sample-count .ensures, c .before .before .before .node-at .ensures)
+returns c = rw (c .duration .ensures, c .before .rate .ensures (c .before .before .before .before .before .before .args .plan .now), c .before .before .sample-count .ensures, c .before .before .before .node-at .ensures)
 
 pub node-length-spec : {M : Type 1} → statement M
 node-length-spec = tie.close (tie.spec node-at-requires sample-count-requires (λ c κs. search needs) (λ c κs. search needs) returns)

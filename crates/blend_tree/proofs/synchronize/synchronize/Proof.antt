@@ -10,11 +10,11 @@ use Rattle.blend_tree.proofs.synchronize.synchronize.Statement.{stateme
 use Rattle.blend_tree.proofs.synchronize.synchronize.Tie as tie
 
 abbrev Inv-loop : tie.InvT-loop
-Inv-loop plan numbers layout here parameters slots time instances₀ i₀ instances i =
-    (i ≤ here .nodes) × (instances ≡ synchronizeNodes plan numbers parameters time (here .state) i instances₀)
+Inv-loop plan numbers state parameters slots instances₀ i₀ instances i =
+    (i ≤ state .here .nodes) × (instances ≡ synchronizeNodes plan numbers parameters (state .time) (state .here .state) i instances₀)
 
 abbrev μ-loop : tie.MeasureT-loop
-μ-loop plan numbers layout here parameters slots time instances₀ i₀ instances i = here .nodes - i
+μ-loop plan numbers state parameters slots instances₀ i₀ instances i = state .here .nodes - i
 
 loop-holds : tie.Need-loop-holds Inv-loop μ-loop
 unfolding synchronizeNodes
@@ -33,7 +33,7 @@ returns : tie.Need-returns Inv-loop μ-loop
 unfolding synchronize
 returns c =
     let l = c .before .before in
-    let last : l .loop .i ≡ nodeCount (l .before .before .before .args .plan .now) (l .before .before .before .args .here .state) = omega (arith, nodes-counted (l .before .before .before .pre .1)) in
+    let last : l .loop .i ≡ nodeCount (l .before .before .before .args .plan .now) (l .before .before .before .args .state .here .state) = omega (arith, nodes-counted (l .before .before .before .pre .1)) in
     rw last at (l .loop .inv .1)
 
 pub synchronize-spec : {M : Type 1} → statement M

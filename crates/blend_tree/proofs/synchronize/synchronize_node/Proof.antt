@@ -5,21 +5,21 @@ use Prim.Native.Nat.{_<_}
 use mathlib.Core.Path.{_≡_, sym, _∙_}
 use mathlib.Core.Bool.{true}
 use native.Mathlib.Omega.{arith}
-use Rattle.model.specs.Plan.{isClip}
+use Rattle.model.specs.Plan.{maxParameters, isClip}
 use Rattle.model.specs.Tree.{isTouched, synchronizeNode}
-use Rattle.blend_tree.proofs.NodeLaws.{passes, NodeRead, inputs-inside, parameter-small}
+use Rattle.blend_tree.proofs.NodeLaws.{passes, node-small, slot-found, slot-small, NodeRead, inputs-inside, parameter-small}
 use Rattle.blend_tree.proofs.SynchronizeLaws.{touched-inputs, both-synchronized}
 use Rattle.blend_tree.proofs.synchronize.synchronize_node.Statement.{statement}
 use Rattle.blend_tree.proofs.synchronize.synchronize_node.Tie as tie
 
-touched : (c : tie.After-node-at) → let a = c .before .before .before .before .before .args in isTouched (a .plan .now) (a .here .state) (a .i) ≡ true
+touched : (c : tie.After-node-at) → let a = c .before .before .before .before .before .args in isTouched (a .plan .now) (a .state .here .state) (a .i) ≡ true
 touched c = sym (c .before .before .is-touched .ensures) ∙ not-false _ (c .before .if1 .left)
 
 -- both inputs are clip nodes of the state, and the parameter is one of the player's
 known : (c : tie.After-node-at)
     → let a = c .before .before .before .before .before .args in
     let n = c .node-at .result in
-    (n .a < a .here .nodes) × (isClip (a .plan .now) (a .here .state) (n .a) ≡ true) × (n .b < a .here .nodes) × (isClip (a .plan .now) (a .here .state) (n .b) ≡ true) × (n .parameter < 32)
+    (n .a < a .state .here .nodes) × (isClip (a .plan .now) (a .state .here .state) (n .a) ≡ true) × (n .b < a .state .here .nodes) × (isClip (a .plan .now) (a .state .here .state) (n .b) ≡ true) × (n .parameter < maxParameters)
 known c =
     let p = c .before .before .before .before .before .pre in
     let e = c .node-at .ensures in
@@ -50,17 +50,17 @@ node-length-requires-2 c κs =
 
 synchronize-input-requires : tie.Need-synchronize-input-requires
 synchronize-input-requires c κs =
-    let l = c .before .before .before .before in
-    let n = l .before in
+    let n = c .before .before .before .before .before in
     let p = n .before .before .before .before .before .pre in
-    (passes (p .0), p .1, p .2, known n .0, known n .1, l .node-length .ensures)
+    let ok = passes (p .0) in
+    (node-small ok (p .1) (known n .0), slot-small ok (p .1) (known n .0) (p .2) (known n .1))
 
 synchronize-input-requires-2 : tie.Need-synchronize-input-requires-2
 synchronize-input-requires-2 c κs =
-    let l = c .before .before .before .before .before in
-    let n = l .before .before in
+    let n = c .before .before .before .before .before .before .before in
     let p = n .before .before .before .before .before .pre in
-    (passes (p .0), p .1, p .2, known n .2, known n .3, l .node-length2 .ensures)
+    let ok = passes (p .0) in
+    (node-small ok (p .1) (known n .2), slot-small ok (p .1) (known n .2) (p .2) (known n .3))
 
 returns-2 : tie.Need-returns-2
 returns-2 c =
@@ -68,7 +68,10 @@ returns-2 c =
     let t = y .before .before in
     let b = t .before .before in
     let n = b .before .before in
-    both-synchronized _ _ _ (n .node-at .ensures) _ _ _ _ _ _ _ _ _ (touched n) (b .before .node-length .ensures) (b .node-length2 .ensures) (t .target-length .ensures) (y .synchronize-input .ensures) (c .synchronize-input2 .ensures)
+    let p = n .before .before .before .before .before .pre in
+    let ok = passes (p .0) in
+    both-synchronized _ _ _ (n .node-at .ensures) _ _ _ _ _ _ _ _ _ _ _ (touched n) (b .before .node-length .ensures) (b .node-length2 .ensures) (t .target-length .ensures)
+    (slot-found ok (p .1) (known n .0) (p .2)) (slot-found ok (p .1) (known n .2) (p .2)) (y .synchronize-input .ensures) (c .synchronize-input2 .ensures)
 
 pub synchronize-node-spec : {M : Type 1} → statement M
 synchronize-node-spec =

@@ -1,0 +1,35 @@
+-- Samples counted over all clips, and the pose of a joint between two of them. Definitions only.
+use Prim.Native.Nat.{ℕ, _+_, _*_, _<_}
+use mathlib.Core.Path.{_≡_}
+use mathlib.Core.List.{List}
+use lib.Ieee.{Float}
+use Rattle.model.specs.declared.Pose.{Pose}
+use Rattle.model.specs.Pose.{lerp}
+use Rattle.model.specs.Plan.{clipCount, sampleCount, samplesBefore}
+use Rattle.model.specs.Clips.{firstIndex, secondIndex, factor}
+use Rattle.layout.specs.declared.Layout.{Layout}
+use Rattle.animation.specs.declared.Position.{Position}
+use Rattle.animation.specs.Sampling.{poseFrom}
+use Rattle.blend_tree.specs.Blocks.{Playable}
+
+-- on either side of a position of clip c
+unfoldable pub samplesAt : List ℕ → ℕ → Float → Position
+samplesAt plan c position =
+    let n = sampleCount plan c in
+    record { first = samplesBefore plan c + firstIndex n position; second = samplesBefore plan c + secondIndex n position; factor = factor position }
+
+-- where a sample's pose of joint j begins
+abbrev pub poseStart : Layout → ℕ → ℕ → ℕ
+poseStart layout sample j = layout .«poses_at» + (sample * layout .joints + j) * 8
+
+unfoldable pub poseBetween : List Float → Layout → Position → ℕ → Pose
+poseBetween numbers layout p j = lerp (poseFrom numbers (poseStart layout (p .first) j)) (poseFrom numbers (poseStart layout (p .second) j)) (p .factor)
+
+-- these are samples of a clip of a plan that passed with these numbers
+pub record Sampled (numbers : List Float) (layout : Layout) (samples : Position) : Type 0 where
+  pub plan : List ℕ
+  pub c : ℕ
+  pub position : Float
+  pub playable : Playable plan numbers layout
+  pub clip : c < clipCount plan
+  pub found : samples ≡ samplesAt plan c position
