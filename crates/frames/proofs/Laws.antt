@@ -1,25 +1,24 @@
 -- What a frame's parts come to, over plain values: the player and output of one that is played, and the promise of each answer. Assumes nothing.
 use Prim.Native.Nat.{ℕ, _≤_, _<_}
-use native.Mathlib.Omega.{arith}
 use mathlib.Core.Path.{_≡_, refl, sym, ap, subst, _∙_}
 use mathlib.Core.Bool.{Bool, true, false}
 use mathlib.Core.List.{List}
 use lib.ListN.{length}
 use lib.Ieee.{Float}
-use denote.Enum.Declared.{tagOf}
-use borrow.Author.Tests.{le-ltb, lt-ltb, le-leb, lt-leb, leb-true}
+use borrow.Author.Tests.{le-ltb, lt-ltb, ltb-true, le-leb, lt-leb, leb-true}
 use Rattle.model.specs.declared.Answer.{Answer}
 use Rattle.model.specs.declared.Answer.the-variants as answer
+use Rattle.model.specs.declared.FrameKind.{FrameKind}
+use Rattle.model.specs.declared.FrameKind.the-variants.{Ordinary, Page}
 use Rattle.model.specs.declared.Outcome.{Outcome}
 use Rattle.model.specs.declared.Player.{Player}
-use Rattle.model.proofs.Answer.{the-type}
-use Rattle.model.proofs.Tags.{never}
 use Rattle.model.specs.Answers.{Verdict, accepted, refused, values, _then_, require, unlessRefused}
-use Rattle.model.specs.Plan.{jointCount, stateCount, outputAt}
+use Rattle.model.specs.declared.Refusal.{Refusal}
+use Rattle.model.specs.Plan.{maxJoints, jointCount, stateCount, outputAt}
 use Rattle.model.specs.Check.{check}
 use Rattle.model.specs.Controller.{withState, withTransition, withInstances, isTargetBelow, frameVerdict, nowAt, stepFrom, elapsed}
 use Rattle.model.specs.Skeleton.{jointMatrices, written}
-use Rattle.model.specs.Run.{FrameKind, ordinary, page, shown, framePlayer, frameMatrices}
+use Rattle.model.specs.Run.{shown, framePlayer, frameMatrices}
 use Rattle.model.specs.Promises.{Framed}
 use Rattle.model.specs.Laws.Answers.{then-left, then-right, require-true}
 use Rattle.model.specs.Laws.Passed.{few-joints, state-passed}
@@ -31,15 +30,15 @@ use Rattle.layout.specs.Layout.{layoutOf, stateLayout}
 use Rattle.layout.proofs.Laws.{joints-found, states-found, same-state}
 use Rattle.plan.specs.declared.Checked.{Checked}
 use Rattle.plan.specs.declared.Checked.the-variants as checked
-use Rattle.plan.proofs.Checked.{the-type as checked-type}
 use Rattle.transitions.specs.declared.Stepped.{Stepped}
 use Rattle.plan.specs.Checked.{verdict, layoutIn, PlanChecked}
 use Rattle.blend_tree.specs.Blocks.{Playable}
 use Rattle.skeleton.specs.Buffer.{Paged}
 use Rattle.transitions.specs.Step.{StepMade}
 use Rattle.output_pose.specs.Shown.{Shown}
-use Rattle.frames.specs.Parts.{outcomeOf, Played}
+use Rattle.frames.specs.Parts.{playerOf, outcomeOf, FrameAnswered, Played}
 use Rattle.frames.specs.declared.FrameParts.{FrameParts}
+use Rattle.frames.specs.declared.Parts.{Parts}
 
 -- ---- the check's enum
 
@@ -87,93 +86,103 @@ module _ (plan : List ℕ) (numbers : List Float) (p : Player) (n : ℕ) where
   unfolding frameVerdict
   check-refuses k m r e = refused-first k m r _ _ _ _ e
 
-  pub frame-passed : frameVerdict plan numbers p n ≡ accepted → check plan (length numbers) ≡ accepted
-  unfolding frameVerdict
-  frame-passed e = then-left _ _ (then-left _ _ (then-left _ _ e))
+  module _ (e : frameVerdict plan numbers p n ≡ accepted) where
+    pub frame-passed : check plan (length numbers) ≡ accepted
+    unfolding frameVerdict
+    frame-passed = then-left _ _ (then-left _ _ (then-left _ _ e))
 
-  pub frame-fits : frameVerdict plan numbers p n ≡ accepted → outputAt (jointCount plan) ≤ n
-  unfolding frameVerdict
-  frame-fits e = leb-true _ _ (require-true _ _ _ (then-right _ _ e))
+    pub frame-state : p .state < stateCount plan
+    unfolding frameVerdict
+    frame-state = ltb-true _ _ (require-true _ _ _ (then-right _ _ (then-left _ _ (then-left _ _ e))))
+
+    pub frame-target : isTargetBelow (stateCount plan) (p .transition) ≡ true
+    unfolding frameVerdict
+    frame-target = require-true _ _ _ (then-right _ _ (then-left _ _ e))
+
+    pub frame-fits : outputAt (jointCount plan) ≤ n
+    unfolding frameVerdict
+    frame-fits = leb-true _ _ (require-true _ _ _ (then-right _ _ e))
 
 -- a plan that passed, by its layout: the tests that follow, each past the ones before it
-module _ (plan : List ℕ) (numbers : List Float) (l : Layout) (ok : Playable plan numbers l) (p : Player) (n : ℕ) where
-  pub state-refuses : l .states ≤ p .state → frameVerdict plan numbers p n ≡ refused 9 0 0
+module _ (l : Layout) (parts : Parts) (n : ℕ) (a : Answer) where
+  pub state-refuses : l .states ≤ parts .state → values a ≡ refused 9 0 0 → FrameAnswered l parts n a
   unfolding frameVerdict _then_ require
-  state-refuses h = let k : stateCount plan ≤ p .state = rw (← states-found plan (ok .found)) h in rw (ok .passed, le-ltb (p .state) (stateCount plan) k)
+  state-refuses h e =
+      record { answer = λ plan numbers _ _ ok. e ∙ sym (rw (ok .passed, ← states-found plan (ok .found), le-ltb (parts .state) (l .states) h)) }
 
-  module _ (h : p .state < l .states) where
-    pub in-range : p .state < stateCount plan
-    in-range = rw (← states-found plan (ok .found)) h
+  module _ (h : parts .state < l .states) (below : Bool) (told : below ≡ isTargetBelow (l .states) (parts .transition)) where
+    pub target-refuses : below ≡ false → values a ≡ refused 9 0 0 → FrameAnswered l parts n a
+    unfolding frameVerdict _then_ require
+    target-refuses f e =
+        record { answer = λ plan numbers _ _ ok. e ∙ sym (rw (ok .passed, ← states-found plan (ok .found), lt-ltb (parts .state) (l .states) h, ← told, f)) }
 
-    module _ (below : Bool) (told : below ≡ isTargetBelow (l .states) (p .transition)) where
-      target-is : isTargetBelow (stateCount plan) (p .transition) ≡ below
-      target-is = rw (← states-found plan (ok .found)) (sym told)
-
-      pub target-refuses : below ≡ false → frameVerdict plan numbers p n ≡ refused 9 0 0
+    module _ (t : below ≡ true) (at : ℕ) (end : at ≡ outputAt (l .joints)) where
+      pub output-refuses : n < at → values a ≡ refused 10 0 0 → FrameAnswered l parts n a
       unfolding frameVerdict _then_ require
-      target-refuses e = rw (ok .passed, lt-ltb (p .state) (stateCount plan) in-range, target-is, e)
+      output-refuses f e =
+          record { answer = λ plan numbers _ _ ok. e ∙ sym (rw (ok .passed, ← states-found plan (ok .found), lt-ltb (parts .state) (l .states) h, ← told, t, ← joints-found plan (ok .found), ← end, lt-leb at n f)) }
 
-      module _ (e : below ≡ true) (at : ℕ) (end : at ≡ outputAt (l .joints)) where
-        pub target-below : isTargetBelow (stateCount plan) (p .transition) ≡ true
-        target-below = target-is ∙ e
+      pub nothing-refuses : at ≤ n → values a ≡ accepted → FrameAnswered l parts n a
+      unfolding frameVerdict _then_ require
+      nothing-refuses f e =
+          record { answer = λ plan numbers _ _ ok. e ∙ sym (rw (ok .passed, ← states-found plan (ok .found), lt-ltb (parts .state) (l .states) h, ← told, t, ← joints-found plan (ok .found), ← end, le-leb at n f)) }
 
-        pub output-fits : at ≤ n → outputAt (jointCount plan) ≤ n
-        output-fits f = rw (← joints-found plan (ok .found), ← end) f
+-- the promise of a refused frame of either kind, with the parts as they were, and of an accepted one
+module _ (plan : List ℕ) (numbers : List Float) (parts : Parts) (parameters instances : List Float) (ext : Float) where
+  abbrev lent : Player
+  lent = playerOf parts parameters instances
 
-        pub output-refuses : n < at → frameVerdict plan numbers p n ≡ refused 10 0 0
-        unfolding frameVerdict _then_ require
-        output-refuses f =
-            let g : n < outputAt (jointCount plan) = rw (← joints-found plan (ok .found), ← end) f in
-            rw (ok .passed, lt-ltb (p .state) (stateCount plan) in-range, target-below, lt-leb (outputAt (jointCount plan)) n g)
-
-        pub nothing-refuses : at ≤ n → frameVerdict plan numbers p n ≡ accepted
-        unfolding frameVerdict _then_ require
-        nothing-refuses f = rw (ok .passed, lt-ltb (p .state) (stateCount plan) in-range, target-below, le-leb (outputAt (jointCount plan)) n (output-fits f))
-
--- the promise of a refused frame of either kind, and of an accepted one
-pub frame-refused : (kind : FrameKind) (plan : List ℕ) (numbers : List Float) (p : Player) (ext : Float) (old : List Float) (r : FrameParts) (k m n : ℕ)
-    → frameVerdict plan numbers p (length old) ≡ refused k m n → values (r .answer) ≡ refused k m n → r .state ≡ p .state → r .transition ≡ p .transition
-    → Framed kind plan numbers p ext old old (outcomeOf (p .clock) (p .speed) r (p .parameters) (p .instances))
-unfolding unlessRefused
-frame-refused kind plan numbers p ext old r k m n v e s t = record { answer = e ∙ sym v; player = rw (v, s, t); output = rw v }
-
-pub frame-accepted : (plan : List ℕ) (numbers : List Float) (p : Player) (ext : Float) (old new : List Float) (q : Player)
-    → frameVerdict plan numbers p (length old) ≡ accepted → Played plan numbers p ext old new q → Framed ordinary plan numbers p ext old new (record { answer = answer.Accepted; player = q })
-unfolding values unlessRefused
-frame-accepted plan numbers p ext old new q v done = record { answer = sym v; player = rw v (done .player); output = rw v (done .output) }
-
--- a check that refuses hands its refusal on
-pub frame-handed : (plan : List ℕ) (numbers : List Float) (p : Player) (ext : Float) (k : Checked) → PlanChecked plan (length numbers) k → tagOf checked-type k ≡ 1
-    → (old : List Float) {a : Answer} → values a ≡ verdict k → Framed ordinary plan numbers p ext old old (record { answer = a; player = p })
-unfolding verdict
-frame-handed plan numbers p ext (checked.Passed l) done t old e = absurd (omega (arith, t))
-frame-handed plan numbers p ext (checked.Refused n m) done t old e =
-    frame-refused ordinary plan numbers p ext old (record { answer = _; state = p .state; transition = p .transition }) n m 0 (check-refuses plan numbers p (length old) n m 0 (sym (done .answer))) e refl refl
-
--- ---- a page frame, from the frame that it is
-
-module _ (plan : List ℕ) (numbers : List Float) (p : Player) (ext : Float) (old mid : List Float) (r : Outcome) (done : Framed ordinary plan numbers p ext old mid r) where
-  unrefused : (v : Verdict) (a b o : List Float) → (v ≡ accepted → ⊥) → unlessRefused v a o ≡ unlessRefused v b o
+  frame-refused : (old : List Float) (a : Answer) (k m n : ℕ) → frameVerdict plan numbers lent (length old) ≡ refused k m n → values a ≡ refused k m n
+      → (r : FrameParts) → (r .answer ≡ a) × (r .state ≡ parts .state) × (r .transition ≡ parts .transition) → Framed Ordinary plan numbers lent ext old old (outcomeOf parts r parameters instances)
   unfolding unlessRefused
-  unrefused accepted a b o h = absurd (h refl)
-  unrefused (refused k m n) a b o h = refl
+  frame-refused old a k m n v e r same = record { answer = ap values (same .0) ∙ e ∙ sym v; player = rw (v, same .1, same .2); output = rw v }
 
-  pub page-refused : tagOf the-type (r .answer) ≡ 1 → Framed page plan numbers p ext old mid r
-  page-refused t =
-      record { answer = done .answer; player = done .player; output = done .output ∙ unrefused _ _ _ _ (λ e. never (r .answer) t (done .answer ∙ e)) }
+  -- a check's refusal is handed on
+  pub check-handed : (old : List Float) (k : Checked) → PlanChecked plan (length numbers) k → (x : Refusal) → k ≡ checked.Refused x → (a : Answer) → values a ≡ verdict k
+      → (r : FrameParts) → (r .answer ≡ a) × (r .state ≡ parts .state) × (r .transition ≡ parts .transition) → Framed Ordinary plan numbers lent ext old old (outcomeOf parts r parameters instances)
+  unfolding verdict
+  check-handed old k done x e a told =
+      frame-refused old a (x .number) (x .place) 0 (check-refuses plan numbers lent (length old) (x .number) (x .place) 0 (sym (done .answer) ∙ ap verdict e)) (told ∙ ap verdict e)
+
+  module _ (l : Layout) (ok : Playable plan numbers l) (old : List Float) (a : Answer) (answered : FrameAnswered l parts (length old) a) where
+    answer-is : values a ≡ frameVerdict plan numbers lent (length old)
+    answer-is = answered .answer plan numbers parameters instances ok
+
+    pub frame-handed : (x : Refusal) → a ≡ answer.Refused x
+        → (r : FrameParts) → (r .answer ≡ a) × (r .state ≡ parts .state) × (r .transition ≡ parts .transition) → Framed Ordinary plan numbers lent ext old old (outcomeOf parts r parameters instances)
+    unfolding values
+    frame-handed x e = frame-refused old a (x .number) (x .place) 0 (sym answer-is ∙ ap values e) (ap values e)
+
+    module _ (e : a ≡ answer.Accepted) where
+      pub now-accepted : frameVerdict plan numbers lent (length old) ≡ accepted
+      unfolding values
+      now-accepted = sym answer-is ∙ ap values e
+
+      pub frame-accepted : (new : List Float) (q : Player) → Played plan numbers lent ext old new q → Framed Ordinary plan numbers lent ext old new (record { answer = a; player = q })
+      unfolding unlessRefused
+      frame-accepted new q done = record { answer = answer-is; player = rw now-accepted (done .player); output = rw now-accepted (done .output) }
+
+-- ---- a frame of either kind, from the ordinary one
+
+module _ (plan : List ℕ) (numbers : List Float) (p : Player) (ext : Float) (old mid : List Float) (r : Outcome) (done : Framed Ordinary plan numbers p ext old mid r) where
+  pub kind-refused : (kind : FrameKind) (x : Refusal) → r .answer ≡ answer.Refused x → Framed kind plan numbers p ext old mid r
+  unfolding values unlessRefused
+  kind-refused kind x e =
+      let v : frameVerdict plan numbers p (length old) ≡ refused (x .number) (x .place) 0 = sym (done .answer) ∙ ap values e in
+      record { answer = done .answer; player = done .player; output = rw v (rw v at (done .output)) }
 
   module _ (e : r .answer ≡ answer.Accepted) where
     accepted-frame : frameVerdict plan numbers p (length old) ≡ accepted
     unfolding values
     accepted-frame = sym (done .answer) ∙ ap values e
 
-    pub page-joints : jointCount plan ≤ 64
+    pub page-joints : jointCount plan ≤ maxJoints
     page-joints = few-joints plan (length numbers) (frame-passed plan numbers p (length old) accepted-frame)
 
     pub page-fits : length mid ≡ length old → outputAt (jointCount plan) ≤ length mid
     page-fits h = rw h (frame-fits plan numbers p (length old) accepted-frame)
 
-    pub page-accepted : (new : List Float) → Paged (jointCount plan) mid new → Framed page plan numbers p ext old new r
+    pub page-accepted : (new : List Float) → Paged (jointCount plan) mid new → Framed Page plan numbers p ext old new r
     unfolding unlessRefused frameMatrices shown written jointMatrices
     page-accepted new paged =
         record {

@@ -3,24 +3,39 @@ use Prim.Native.Nat.{ℕ}
 use mathlib.Core.Path.{_≡_}
 use mathlib.Core.List.{List}
 use lib.Ieee.{Float}
+use Rattle.model.specs.declared.Answer.{Answer}
+use Rattle.model.specs.declared.FrameKind.the-variants.{Ordinary}
 use Rattle.model.specs.declared.Player.{Player}
 use Rattle.model.specs.declared.Outcome.{Outcome}
 use Rattle.model.specs.declared.Transition.{Transition}
+use Rattle.model.specs.Answers.{values}
+use Rattle.model.specs.Controller.{frameVerdict}
 use Rattle.model.specs.Skeleton.{written}
-use Rattle.model.specs.Run.{ordinary, framePlayer, frameMatrices}
+use Rattle.model.specs.Run.{framePlayer, frameMatrices}
+use Rattle.layout.specs.declared.Layout.{Layout}
+use Rattle.blend_tree.specs.Blocks.{Playable}
+use Rattle.frames.specs.declared.Parts.{Parts}
 use Rattle.frames.specs.declared.FrameParts.{FrameParts}
 
+-- the parts after a frame
+abbrev pub moved : Parts → ℕ → Transition → Parts
+moved parts state transition = record { clock = parts .clock; speed = parts .speed; state = state; transition = transition }
+
 -- the player that has these parts
-abbrev pub playerOf : Float → Float → ℕ → Transition → List Float → List Float → Player
-playerOf clock speed state transition parameters instances =
-    record { clock = clock; speed = speed; state = state; transition = transition; parameters = parameters; instances = instances }
+abbrev pub playerOf : Parts → List Float → List Float → Player
+playerOf parts parameters instances =
+    record { clock = parts .clock; speed = parts .speed; state = parts .state; transition = parts .transition; parameters = parameters; instances = instances }
 
 -- the outcome that the parts of a frame and the instances left behind make up
-abbrev pub outcomeOf : Float → Float → FrameParts → List Float → List Float → Outcome
-outcomeOf clock speed r parameters instances =
-    record { answer = r .answer; player = playerOf clock speed (r .state) (r .transition) parameters instances }
+abbrev pub outcomeOf : Parts → FrameParts → List Float → List Float → Outcome
+outcomeOf parts r parameters instances = record { answer = r .answer; player = playerOf (moved parts (r .state) (r .transition)) parameters instances }
+
+-- the answer to a frame of a plan with this layout, whatever else the player holds
+pub record FrameAnswered (layout : Layout) (parts : Parts) (outputLength : ℕ) (r : Answer) : Type 0 where
+  pub answer : (plan : List ℕ) (numbers parameters instances : List Float) → Playable plan numbers layout
+      → values r ≡ frameVerdict plan numbers (playerOf parts parameters instances) outputLength
 
 -- a frame that nothing refuses: p becomes q, and the output changes from `old` to `new`
 pub record Played (plan : List ℕ) (numbers : List Float) (p : Player) (ext : Float) (old new : List Float) (q : Player) : Type 0 where
   pub player : q ≡ framePlayer plan numbers p ext
-  pub output : new ≡ written plan (frameMatrices plan numbers p ext ordinary) old
+  pub output : new ≡ written plan (frameMatrices plan numbers p ext Ordinary) old

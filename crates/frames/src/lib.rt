@@ -6,10 +6,15 @@ use layout::StateLayout;
 use layout::state_layout;
 use layout::word;
 use model::Answer;
+use model::FrameKind;
 use model::Transition;
+use model::limits::MAX_INSTANCES;
+use model::limits::MAX_PARAMETERS;
+use model::refused;
 use output_pose::show;
 use output_pose::show_joint;
 use plan::Checked;
+use plan::answer_of;
 use plan::check;
 use skeleton::make_page_matrices;
 use skeleton::output_at;
@@ -19,35 +24,28 @@ ghost use mathlib.Core.Path.{_≡_};
 ghost use mathlib.Core.Bool.{true};
 ghost use Prim.Native.Nat.{_<_, _≤_};
 ghost use lib.ListN.{length};
+ghost use Rattle.model.specs.declared.FrameKind.the-variants.{Ordinary};
 ghost use Rattle.model.specs.declared.Transition.the-variants as Transition;
-ghost use Rattle.model.specs.Answers.{values, refused};
-ghost use Rattle.model.specs.Plan.{jointCount, stateCount, outputAt};
+ghost use Rattle.model.specs.Plan.{maxJoints, jointCount, stateCount, outputAt};
 ghost use Rattle.model.specs.Controller.{isTargetBelow};
-ghost use Rattle.model.specs.Run.{FrameKind, kindOf};
 ghost use Rattle.model.specs.Promises.{Framed};
-ghost use Rattle.plan.specs.Checked.{verdict};
 ghost use Rattle.layout.specs.Layout.{layoutOf, stateLayout, Passes, InPlan};
 ghost use Rattle.blend_tree.specs.Blocks.{Playable};
-ghost use Rattle.frames.specs.Parts.{playerOf, outcomeOf, Played};
+ghost use Rattle.frames.specs.Parts.{moved, playerOf, outcomeOf, FrameAnswered, Played};
+
+// What a frame reads of a player beside its arrays.
+pub struct Parts {
+    pub clock: f64,
+    pub speed: f64,
+    pub state: usize,
+    pub transition: Transition,
+}
 
 // The answer, and the parts that a frame hands back; the instances are changed where they are.
 pub struct FrameParts {
     pub answer: Answer,
     pub state: usize,
     pub transition: Transition,
-}
-
-// The refusal that the check of a plan hands back.
-pub fn refusal(checked: Checked) -> Answer
-    ensures { λ r. ⌜ values r ≡ verdict checked ⌝ }
-{
-    match checked {
-        Checked::Passed(_) => Answer::Accepted,
-        Checked::Refused { number, place } => Answer::Refused {
-            number: number,
-            place: place,
-        },
-    }
 }
 
 fn is_target_below(n: usize, transition: Transition) -> bool
@@ -92,24 +90,22 @@ fn play(
     plan: &[u16],
     numbers: &[f32],
     layout: Layout,
-    clock: f64,
-    speed: f64,
-    state: usize,
-    transition: Transition,
-    parameters: &[f32; 32],
-    instances: &mut [f32; 192],
+    parts: Parts,
+    parameters: &[f32; MAX_PARAMETERS],
+    instances: &mut [f32; MAX_INSTANCES],
     ext: f64,
     output: &mut [f32],
 ) -> Stepped
-    requires { ⌜ Playable (now plan) (now numbers) layout × (state < stateCount (now plan)) × (isTargetBelow (stateCount (now plan)) transition ≡ true) × (outputAt (jointCount (now plan)) ≤ length (now output)) ⌝ }
-    ensures { λ r. ⌜ Played (now (plan .entry)) (now (numbers .entry)) (playerOf clock speed state transition (now (parameters .entry)) (now (instances .entry))) ext (now (output .entry)) (now (output .exit)) (playerOf clock speed (r .state) (r .transition) (now (parameters .entry)) (now (instances .exit))) ⌝ }
+    requires { ⌜ Playable (now plan) (now numbers) layout × (parts .state < stateCount (now plan)) × (isTargetBelow (stateCount (now plan)) (parts .transition) ≡ true) × (outputAt (jointCount (now plan)) ≤ length (now output)) ⌝ }
+    ensures { λ r. ⌜ Played (now (plan .entry)) (now (numbers .entry)) (playerOf parts (now (parameters .entry)) (now (instances .entry))) ext (now (output .entry)) (now (output .exit)) (playerOf (moved parts (r .state) (r .transition)) (now (parameters .entry)) (now (instances .exit))) ⌝ }
 {
-    let instant = clock + ext;
-    let before = state_layout(plan, layout, state);
+    let instant = parts.clock + ext;
+    let before = state_layout(plan, layout, parts.state);
+    let transition = parts.transition;
     let stepped = step(plan, numbers, before, transition, parameters, instant);
     let next = stepped.transition;
     let here = layout_of(plan, layout, before, stepped.state);
-    let time = narrow(clock + ext * speed);
+    let time = narrow(parts.clock + ext * parts.speed);
     if is_single(layout.joints, here.nodes, next) {
         show_joint(plan, numbers, layout, here, instances, time, output);
         return stepped;
@@ -129,58 +125,60 @@ fn play(
     stepped
 }
 
-fn refused(number: usize, state: usize, transition: Transition) -> FrameParts
-    ensures { λ r. ⌜ (values (r .answer) ≡ refused number 0 0) × (r .state ≡ state) × (r .transition ≡ transition) ⌝ }
+// A refused frame leaves the parts as they were.
+fn kept(refusal: Answer, parts: Parts) -> FrameParts
+    ensures { λ r. ⌜ (r .answer ≡ refusal) × (r .state ≡ parts .state) × (r .transition ≡ parts .transition) ⌝ }
 {
+    let transition = parts.transition;
     FrameParts {
-        answer: Answer::Refused {
-            number: number,
-            place: 0,
-        },
-        state: state,
+        answer: refusal,
+        state: parts.state,
         transition: transition,
     }
+}
+
+// Of a plan that passed: the player's state and running target must be the plan's, and the output long enough.
+fn frame_answer(layout: Layout, parts: Parts, length: usize) -> Answer
+    requires { ⌜ layout .joints ≤ maxJoints ⌝ }
+    ensures { λ r. ⌜ FrameAnswered layout parts length r ⌝ }
+{
+    if parts.state >= layout.states {
+        return refused(9, 0);
+    }
+    let transition = parts.transition;
+    if !is_target_below(layout.states, transition) {
+        return refused(9, 0);
+    }
+    if length < output_at(layout.joints) {
+        return refused(10, 0);
+    }
+    Answer::Accepted
 }
 
 fn ordinary_frame(
     plan: &[u16],
     numbers: &[f32],
-    clock: f64,
-    speed: f64,
-    state: usize,
-    transition: Transition,
-    parameters: &[f32; 32],
-    instances: &mut [f32; 192],
+    parts: Parts,
+    parameters: &[f32; MAX_PARAMETERS],
+    instances: &mut [f32; MAX_INSTANCES],
     ext: f64,
     output: &mut [f32],
 ) -> FrameParts
-    ensures { λ r. ⌜ Framed FrameKind.ordinary (now (plan .entry)) (now (numbers .entry)) (playerOf clock speed state transition (now (parameters .entry)) (now (instances .entry))) ext (now (output .entry)) (now (output .exit)) (outcomeOf clock speed r (now (parameters .entry)) (now (instances .exit))) ⌝ }
+    ensures { λ r. ⌜ Framed Ordinary (now (plan .entry)) (now (numbers .entry)) (playerOf parts (now (parameters .entry)) (now (instances .entry))) ext (now (output .entry)) (now (output .exit)) (outcomeOf parts r (now (parameters .entry)) (now (instances .exit))) ⌝ }
 {
     let checked = check(plan, numbers.len());
     let Checked::Passed(layout) = checked else {
-        return FrameParts {
-            answer: refusal(checked),
-            state: state,
-            transition: transition,
-        };
+        return kept(answer_of(checked), parts);
     };
-    if state >= layout.states {
-        return refused(9, state, transition);
-    }
-    if !is_target_below(layout.states, transition) {
-        return refused(9, state, transition);
-    }
-    if output.len() < output_at(layout.joints) {
-        return refused(10, state, transition);
-    }
+    let answer = frame_answer(layout, parts, output.len());
+    let Answer::Accepted = answer else {
+        return kept(answer, parts);
+    };
     let stepped = play(
         plan,
         numbers,
         layout,
-        clock,
-        speed,
-        state,
-        transition,
+        parts,
         parameters,
         instances,
         ext,
@@ -188,7 +186,7 @@ fn ordinary_frame(
     );
     let next = stepped.transition;
     FrameParts {
-        answer: Answer::Accepted,
+        answer: answer,
         state: stepped.state,
         transition: next,
     }
@@ -196,39 +194,25 @@ fn ordinary_frame(
 
 // A frame; of a page frame each matrix's upper 3×3 is then transposed. One function for both, so that the compiler can inline the work.
 pub fn frame(
-    is_page: bool,
+    kind: FrameKind,
     plan: &[u16],
     numbers: &[f32],
-    clock: f64,
-    speed: f64,
-    state: usize,
-    transition: Transition,
-    parameters: &[f32; 32],
-    instances: &mut [f32; 192],
+    parts: Parts,
+    parameters: &[f32; MAX_PARAMETERS],
+    instances: &mut [f32; MAX_INSTANCES],
     ext: f64,
     output: &mut [f32],
 ) -> FrameParts
-    ensures { λ r. ⌜ Framed (kindOf «is_page») (now (plan .entry)) (now (numbers .entry)) (playerOf clock speed state transition (now (parameters .entry)) (now (instances .entry))) ext (now (output .entry)) (now (output .exit)) (outcomeOf clock speed r (now (parameters .entry)) (now (instances .exit))) ⌝ }
+    ensures { λ r. ⌜ Framed kind (now (plan .entry)) (now (numbers .entry)) (playerOf parts (now (parameters .entry)) (now (instances .entry))) ext (now (output .entry)) (now (output .exit)) (outcomeOf parts r (now (parameters .entry)) (now (instances .exit))) ⌝ }
 {
-    let parts = ordinary_frame(
-        plan,
-        numbers,
-        clock,
-        speed,
-        state,
-        transition,
-        parameters,
-        instances,
-        ext,
-        output,
-    );
-    if !is_page {
-        return parts;
-    }
-    let answer = parts.answer;
+    let framed = ordinary_frame(plan, numbers, parts, parameters, instances, ext, output);
+    let answer = framed.answer;
     let Answer::Accepted = answer else {
-        return parts;
+        return framed;
     };
-    make_page_matrices(word(plan, JOINT_COUNT_AT), output);
-    parts
+    match kind {
+        FrameKind::Ordinary => {}
+        FrameKind::Page => make_page_matrices(word(plan, JOINT_COUNT_AT), output),
+    }
+    framed
 }
