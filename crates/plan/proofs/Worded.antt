@@ -10,7 +10,7 @@ use Rattle.model.proofs.Answer.{the-type}
 use Rattle.model.proofs.Tags.{never}
 use Rattle.model.specs.Answers.{Verdict, accepted, refused, values, _then_}
 use Rattle.model.specs.Text.{maxWord}
-use Rattle.model.specs.Plan.{maxTransitions, stateCount, transitionCount, transitionsBefore, samplesBefore, posesAt, numbersLength}
+use Rattle.model.specs.Plan.{maxJoints, maxClips, maxStates, maxTransitions, stateCount, transitionCount, transitionsBefore, samplesBefore, posesAt, numbersLength}
 use Rattle.model.specs.Check.{checkHeader, check}
 use Rattle.model.specs.Laws.Answers.{then-left, then-right, then-accepted, then-refused, each-at}
 use Rattle.model.specs.Laws.State.{few-transitions}
@@ -29,18 +29,18 @@ module _ (plan : List ℕ) (ok : Worded plan) where
   unfolding checkWords
   header-passed = then-left _ _ (then-left _ _ (then-left _ _ ok))
 
-  pub few-transitions-in-all : transitionsBefore plan (stateCount plan) ≤ 256
+  pub few-transitions-in-all : transitionsBefore plan (stateCount plan) ≤ maxStates * maxTransitions
   unfolding checkWords transitionsBefore
   few-transitions-in-all =
       omega (arith, header.few-states plan header-passed, total-most (transitionCount plan) maxTransitions (stateCount plan) (λ s h. few-transitions plan s (each-at _ _ (then-right _ _ ok) s h)))
 
   module _ (l : Layout) (e : l ≡ layoutOf plan) where
-    pub layout-small : (l .joints ≤ 64) × (l .clips ≤ 16) × (l .«poses_at» ≤ 528)
+    pub layout-small : (l .joints ≤ maxJoints) × (l .clips ≤ maxClips) × (l .«poses_at» ≤ maxWord)
     unfolding layoutOf posesAt
     layout-small = rw e (header.few-joints plan header-passed, header.few-clips plan header-passed, omega (arith, header.few-clips plan header-passed, few-transitions-in-all))
 
-    pub product-small : (s : ℕ) → s ≤ l .clips * maxWord → s * l .joints ≤ 67108864
-    product-small s h = let k : s ≤ 1048576 = omega (arith, layout-small) in mul-le-mul k (layout-small .0)
+    pub product-small : (s : ℕ) → s ≤ l .clips * maxWord → s * l .joints ≤ maxClips * maxWord * maxJoints
+    product-small s h = let k : s ≤ maxClips * maxWord = omega (arith, layout-small) in mul-le-mul k (layout-small .0)
 
 -- the count of numbers, from a layout
 pub numbers-counted : (plan : List ℕ) (l : Layout) (s : ℕ) → l ≡ layoutOf plan → s ≡ samplesBefore plan (l .clips) → l .«poses_at» + s * l .joints * 8 ≡ numbersLength plan

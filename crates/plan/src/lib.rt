@@ -1,6 +1,7 @@
 // The check of a plan, front to back in one pass, and the layout that it finds.
 use crate::states::States;
 use crate::states::check_states;
+use crate::words::Counts;
 use crate::words::check_header;
 use crate::words::check_parents;
 use crate::words::check_sample_counts;
@@ -11,10 +12,12 @@ use layout::Layout;
 use layout::PARAMETER_COUNT_AT;
 use layout::PARENTS_AT;
 use layout::STATE_COUNT_AT;
+use layout::TRANSITION_NUMBERS;
 use layout::samples_before;
 use layout::word;
 use model::Answer;
 use model::Refusal;
+use model::limits::POSE_FLOATS;
 ghost use mathlib.Core.Path.{_≡_};
 ghost use Rattle.model.specs.Answers.{values};
 ghost use Rattle.plan.specs.Checked.{PlanChecked, verdict};
@@ -62,17 +65,20 @@ fn check_words(plan: &[u16]) -> States
         };
     };
     let clips = word(plan, CLIP_COUNT_AT);
-    let counts = check_sample_counts(plan, joints, clips);
-    let Answer::Accepted = counts else {
+    let samples = check_sample_counts(plan, joints, clips);
+    let Answer::Accepted = samples else {
         return States {
-            answer: counts,
+            answer: samples,
             end: 0,
             transitions: 0,
         };
     };
-    let parameters = word(plan, PARAMETER_COUNT_AT);
-    let states = word(plan, STATE_COUNT_AT);
-    check_states(plan, PARENTS_AT + joints + clips, clips, parameters, states)
+    let counts = Counts {
+        clips: clips,
+        parameters: word(plan, PARAMETER_COUNT_AT),
+        states: word(plan, STATE_COUNT_AT),
+    };
+    check_states(plan, PARENTS_AT + joints + clips, counts)
 }
 
 // The layout of a plan whose words passed, for so many transitions.
@@ -88,7 +94,7 @@ fn laid_out(plan: &[u16], transitions: usize) -> Layout
         states: word(plan, STATE_COUNT_AT),
         initial: word(plan, INITIAL_STATE_AT),
         states_at: PARENTS_AT + joints + clips,
-        poses_at: clips + 2 * transitions,
+        poses_at: clips + TRANSITION_NUMBERS * transitions,
     }
 }
 
@@ -105,7 +111,7 @@ fn check_lengths(plan: &[u16], numbers: usize, end: usize, transitions: usize) -
     }
     let layout = laid_out(plan, transitions);
     let samples = samples_before(plan, layout.joints, layout.clips);
-    if numbers != layout.poses_at + samples * layout.joints * 8 {
+    if numbers != layout.poses_at + samples * layout.joints * POSE_FLOATS {
         return Checked::Refused(Refusal {
             number: 7,
             place: 0,

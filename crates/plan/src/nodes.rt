@@ -1,43 +1,46 @@
 // The nodes of a state. Marks say which of them are inputs so far.
+use crate::words::Counts;
 use crate::words::word_below;
 use crate::words::word_is;
 use crate::words::word_up_to;
+use layout::NODE_WORDS;
 use layout::word;
 use model::Answer;
+use model::limits::MAX_CLIP_NODES;
+use model::limits::MAX_NODES;
 use model::refused;
 ghost use mathlib.Core.Path.{_≡_};
-ghost use mathlib.Core.Bool.{false, not, _&&_};
-ghost use Prim.Native.Nat.{suc, _+_, _<_, _≤_};
-ghost use lib.Dec.{ltb};
-ghost use lib.ListN.{getD, length};
-ghost use Rattle.model.specs.Answers.{accepted, values, each, require};
+ghost use mathlib.Core.Bool.{false};
+ghost use Prim.Native.Nat.{_+_, _*_, _≤_};
+ghost use lib.ListN.{getD};
+ghost use Rattle.model.specs.Answers.{values, each, require};
 ghost use Rattle.model.specs.Text.{maxWord};
-ghost use Rattle.model.specs.Plan.{clipCount, parameterCount, kindAt, clipNode, nodeCount};
-ghost use Rattle.model.specs.Check.{used, checkNode};
-ghost use Rattle.plan.specs.Parts.{checkClip, checkBlend, Marks, NodesChecked};
+ghost use Rattle.model.specs.Plan.{maxNodes, maxPlan};
+ghost use Rattle.plan.specs.Parts.{CountsOf, isFree, checkClip, checkBlend, checkNodeAt, marksAfter, clipNodeAfter, HasInputs, NodesChecked};
+
+// A node by its number in its state: the word of its kind, and the number that it has if it is a clip.
+pub struct NodePlace {
+    pub i: usize,
+    pub at: usize,
+    pub clip_node: usize,
+}
 
 // What the check of a state's nodes comes to: the answer, and the marks beside it.
 pub struct Nodes {
     pub answer: Answer,
-    pub used: [bool; 32],
+    pub used: [bool; MAX_NODES],
 }
 
-// The words after the kind of a clip node. The 65th clip node is refused at its kind.
-fn check_clip(
-    plan: &[u16],
-    state: usize,
-    i: usize,
-    at: usize,
-    clips: usize,
-    clip_node: usize,
-) -> Answer
-    requires { ⌜ (at ≤ maxWord) × (at ≡ kindAt (now plan) state i) × (clips ≡ clipCount (now plan)) × («clip_node» ≡ clipNode (now plan) state i) ⌝ }
-    ensures { λ r. ⌜ values r ≡ checkClip (now (plan .entry)) state i ⌝ }
+// The words after the kind of a clip node. One clip node too many is refused at its kind.
+fn check_clip(plan: &[u16], node: NodePlace, counts: Counts) -> Answer
+    requires { ⌜ node .at ≤ maxWord ⌝ }
+    ensures { λ r. ⌜ values r ≡ checkClip (now (plan .entry)) node counts ⌝ }
 {
-    if clip_node >= 64 {
+    let at = node.at;
+    if node.clip_node >= MAX_CLIP_NODES {
         return refused(2, at);
     }
-    let clip = word_below(plan, 4, at + 1, clips);
+    let clip = word_below(plan, 4, at + 1, counts.clips);
     let Answer::Accepted = clip else {
         return clip;
     };
@@ -49,65 +52,50 @@ fn check_clip(
 }
 
 // An input of node i is an earlier node that is not one yet.
-fn is_free(used: &[bool; 32], k: usize, i: usize) -> bool
-    requires { ⌜ i ≤ 32 ⌝ }
-    ensures { λ r. ⌜ r ≡ ltb k i && not (getD (now (used .entry)) k false) ⌝ }
+fn is_free(used: &[bool; MAX_NODES], k: usize, i: usize) -> bool
+    requires { ⌜ i ≤ maxNodes ⌝ }
+    ensures { λ r. ⌜ r ≡ isFree (now (used .entry)) i k ⌝ }
 {
     if k < i { !used[k] } else { false }
 }
 
 // The words after the kind of a lerp or additive node.
-fn check_blend(
-    plan: &[u16],
-    state: usize,
-    i: usize,
-    at: usize,
-    parameters: usize,
-    used: &[bool; 32],
-) -> Answer
-    requires { ⌜ (at ≤ maxWord) × (at ≡ kindAt (now plan) state i) × (i < 32) × (parameters ≡ parameterCount (now plan)) × Marks (now plan) state i (now used) ⌝ }
-    ensures { λ r. ⌜ values r ≡ checkBlend (now (plan .entry)) state i ⌝ }
+fn check_blend(plan: &[u16], node: NodePlace, counts: Counts, used: &[bool; MAX_NODES]) -> Answer
+    requires { ⌜ (node .at ≤ maxWord) × (node .i ≤ maxNodes) ⌝ }
+    ensures { λ r. ⌜ values r ≡ checkBlend (now (plan .entry)) node counts (now (used .entry)) ⌝ }
 {
+    let at = node.at;
     let a = word(plan, at + 1);
     let b = word(plan, at + 2);
-    let first = word_is(plan, 4, at + 1, is_free(used, a, i));
+    let first = word_is(plan, 4, at + 1, is_free(used, a, node.i));
     let Answer::Accepted = first else {
         return first;
     };
-    let second = word_is(plan, 4, at + 2, is_free(used, b, i) & (a != b));
+    let second = word_is(plan, 4, at + 2, is_free(used, b, node.i) & (a != b));
     let Answer::Accepted = second else {
         return second;
     };
-    word_below(plan, 4, at + 3, parameters)
+    word_below(plan, 4, at + 3, counts.parameters)
 }
 
-fn check_node(
-    plan: &[u16],
-    state: usize,
-    i: usize,
-    at: usize,
-    clips: usize,
-    parameters: usize,
-    clip_node: usize,
-    used: &[bool; 32],
-) -> Answer
-    requires { ⌜ (at ≤ maxWord) × (at ≡ kindAt (now plan) state i) × (i < 32) × (clips ≡ clipCount (now plan)) × (parameters ≡ parameterCount (now plan)) × («clip_node» ≡ clipNode (now plan) state i) × Marks (now plan) state i (now used) ⌝ }
-    ensures { λ r. ⌜ values r ≡ checkNode (now (plan .entry)) state i ⌝ }
+fn check_node(plan: &[u16], node: NodePlace, counts: Counts, used: &[bool; MAX_NODES]) -> Answer
+    requires { ⌜ (node .at ≤ maxWord) × (node .i ≤ maxNodes) ⌝ }
+    ensures { λ r. ⌜ values r ≡ checkNodeAt (now (plan .entry)) node counts (now (used .entry)) ⌝ }
 {
-    let kind = word_up_to(plan, 4, at, 2);
+    let kind = word_up_to(plan, 4, node.at, 2);
     let Answer::Accepted = kind else {
         return kind;
     };
-    if word(plan, at) == 0 {
-        return check_clip(plan, state, i, at, clips, clip_node);
+    if word(plan, node.at) == 0 {
+        return check_clip(plan, node, counts);
     }
-    check_blend(plan, state, i, at, parameters, used)
+    check_blend(plan, node, counts, used)
 }
 
-// The marks after a node that passed.
-fn marked(plan: &[u16], state: usize, i: usize, at: usize, used: [bool; 32]) -> [bool; 32]
-    requires { ⌜ (at ≤ maxWord) × (at ≡ kindAt (now plan) state i) × (i < 32) × (checkNode (now plan) state i ≡ accepted) × Marks (now plan) state i used ⌝ }
-    ensures { λ r. ⌜ Marks (now (plan .entry)) state (suc i) r ⌝ }
+// The marks after the node whose kind is the word `at`.
+fn marked(plan: &[u16], at: usize, used: [bool; MAX_NODES]) -> [bool; MAX_NODES]
+    requires { ⌜ (at ≤ maxWord) × HasInputs (now plan) at ⌝ }
+    ensures { λ r. ⌜ r ≡ marksAfter (now (plan .entry)) at used ⌝ }
 {
     if word(plan, at) == 0 {
         return used;
@@ -118,10 +106,10 @@ fn marked(plan: &[u16], state: usize, i: usize, at: usize, used: [bool; 32]) -> 
     marks
 }
 
-// The clip node after this one.
-fn counted(plan: &[u16], state: usize, i: usize, at: usize, clip_node: usize) -> usize
-    requires { ⌜ (at ≡ kindAt (now plan) state i) × («clip_node» ≤ maxWord) × («clip_node» ≡ clipNode (now plan) state i) ⌝ }
-    ensures { λ r. ⌜ (r ≡ clipNode (now (plan .entry)) state (suc i)) × (r ≤ «clip_node» + 1) ⌝ }
+// The clip node after that node.
+fn counted(plan: &[u16], at: usize, clip_node: usize) -> usize
+    requires { ⌜ «clip_node» ≤ maxWord ⌝ }
+    ensures { λ r. ⌜ r ≡ clipNodeAfter (now (plan .entry)) at «clip_node» ⌝ }
 {
     if word(plan, at) == 0 {
         return clip_node + 1;
@@ -129,33 +117,35 @@ fn counted(plan: &[u16], state: usize, i: usize, at: usize, clip_node: usize) ->
     clip_node
 }
 
-// The first n nodes of a state whose first node's kind is the word `nodes_at`.
+// The first n nodes of the state whose K is the word `at`.
 pub fn check_nodes(
     plan: &[u16],
-    state: usize,
-    nodes_at: usize,
+    at: usize,
     n: usize,
-    clips: usize,
-    parameters: usize,
+    counts: Counts,
     first_clip_node: usize,
 ) -> Nodes
-    requires { ⌜ («nodes_at» < 32768) × («nodes_at» ≡ kindAt (now plan) state 0) × (n < 32) × (clips ≡ clipCount (now plan)) × (parameters ≡ parameterCount (now plan)) × («first_clip_node» < 32768) × («first_clip_node» ≡ clipNode (now plan) state 0) ⌝ }
-    ensures { λ r. ⌜ NodesChecked (now (plan .entry)) state n r ⌝ }
+    requires { ⌜ (at + 1 + 4 * n ≤ maxWord) × (n ≤ maxNodes) × («first_clip_node» ≤ maxPlan) × CountsOf (now plan) counts ⌝ }
+    ensures { λ r. ⌜ NodesChecked (now (plan .entry)) at «first_clip_node» n r ⌝ }
 {
-    let mut used = [false; 32];
+    let mut used = [false; MAX_NODES];
     let mut clip_node = first_clip_node;
     let mut i = 0;
     while i < n {
-        let at = nodes_at + 4 * i;
-        let node = check_node(plan, state, i, at, clips, parameters, clip_node, &used);
-        let Answer::Accepted = node else {
+        let node = NodePlace {
+            i: i,
+            at: at + 1 + NODE_WORDS * i,
+            clip_node: clip_node,
+        };
+        let answer = check_node(plan, node, counts, &used);
+        let Answer::Accepted = answer else {
             return Nodes {
-                answer: node,
+                answer: answer,
                 used: used,
             };
         };
-        used = marked(plan, state, i, at, used);
-        clip_node = counted(plan, state, i, at, clip_node);
+        used = marked(plan, node.at, used);
+        clip_node = counted(plan, node.at, clip_node);
         i += 1;
     }
     Nodes {
@@ -165,8 +155,8 @@ pub fn check_nodes(
 }
 
 // The first n nodes are inputs; else the refusal is at the place of K.
-pub fn check_used(used: [bool; 32], n: usize, place: usize) -> Answer
-    requires { ⌜ n < 32 ⌝ }
+pub fn check_used(used: [bool; MAX_NODES], n: usize, place: usize) -> Answer
+    requires { ⌜ n ≤ maxNodes ⌝ }
     ensures { λ r. ⌜ values r ≡ each n (λ k. require (getD used k false) 4 place) ⌝ }
 {
     let mut k = 0;

@@ -5,8 +5,14 @@ use layout::JOINT_COUNT_AT;
 use layout::PARAMETER_COUNT_AT;
 use layout::PARENTS_AT;
 use layout::STATE_COUNT_AT;
+use layout::is_root;
 use layout::word;
 use model::Answer;
+use model::limits::MAX_CLIPS;
+use model::limits::MAX_JOINTS;
+use model::limits::MAX_PARAMETERS;
+use model::limits::MAX_SAMPLES;
+use model::limits::MAX_STATES;
 use model::refused;
 ghost use mathlib.Core.Path.{_≡_};
 ghost use Prim.Native.Nat.{_≤_};
@@ -15,6 +21,13 @@ ghost use Rattle.model.specs.Answers.{values, each};
 ghost use Rattle.model.specs.Text.{maxWord};
 ghost use Rattle.model.specs.Plan.{word, jointCount};
 ghost use Rattle.model.specs.Check.{within, wordIs, checkHeader, checkParent, checkSampleCount};
+
+// The header's counts that words of states are held against.
+pub struct Counts {
+    pub clips: usize,
+    pub parameters: usize,
+    pub states: usize,
+}
 
 // A word that is missing, or fails its test, is refused.
 pub fn word_is(plan: &[u16], number: usize, at: usize, ok: bool) -> Answer
@@ -56,36 +69,33 @@ pub fn word_below(plan: &[u16], number: usize, at: usize, limit: usize) -> Answe
 pub fn check_header(plan: &[u16]) -> Answer
     ensures { λ r. ⌜ values r ≡ checkHeader (now (plan .entry)) ⌝ }
 {
-    let joints = word_within(plan, 2, JOINT_COUNT_AT, 1, 64);
+    let joints = word_within(plan, 2, JOINT_COUNT_AT, 1, MAX_JOINTS);
     let Answer::Accepted = joints else {
         return joints;
     };
-    let clips = word_within(plan, 2, CLIP_COUNT_AT, 1, 16);
+    let clips = word_within(plan, 2, CLIP_COUNT_AT, 1, MAX_CLIPS);
     let Answer::Accepted = clips else {
         return clips;
     };
-    let parameters = word_up_to(plan, 2, PARAMETER_COUNT_AT, 32);
+    let parameters = word_up_to(plan, 2, PARAMETER_COUNT_AT, MAX_PARAMETERS);
     let Answer::Accepted = parameters else {
         return parameters;
     };
-    let states = word_within(plan, 2, STATE_COUNT_AT, 1, 16);
+    let states = word_within(plan, 2, STATE_COUNT_AT, 1, MAX_STATES);
     let Answer::Accepted = states else {
         return states;
     };
     word_below(plan, 2, INITIAL_STATE_AT, word(plan, STATE_COUNT_AT))
 }
 
-// 255 is a root; any other parent is an earlier joint.
+// No parent, or an earlier joint.
 fn check_parent(plan: &[u16], j: usize) -> Answer
     requires { ⌜ j ≤ maxWord ⌝ }
     ensures { λ r. ⌜ values r ≡ checkParent (now (plan .entry)) j ⌝ }
 {
     let at = PARENTS_AT + j;
     let parent = word(plan, at);
-    if parent == 255 {
-        return word_is(plan, 3, at, true);
-    }
-    word_is(plan, 3, at, parent < j)
+    word_is(plan, 3, at, is_root(parent) | (parent < j))
 }
 
 pub fn check_parents(plan: &[u16], joints: usize) -> Answer
@@ -109,7 +119,7 @@ pub fn check_sample_counts(plan: &[u16], joints: usize, clips: usize) -> Answer
 {
     let mut c = 0;
     while c < clips {
-        let count = word_within(plan, 2, PARENTS_AT + joints + c, 1, 4096);
+        let count = word_within(plan, 2, PARENTS_AT + joints + c, 1, MAX_SAMPLES);
         let Answer::Accepted = count else {
             return count;
         };

@@ -60,7 +60,7 @@ check-states-requires c κs =
     let e1 = w1 .word .ensures .0 in
     let e2 = w2 .word2 .ensures .0 in
     let e4 = c .word4 .ensures .0 in
-    (omega (arith, e1, e2, header.few-joints _ ok, header.few-clips _ ok), rw (e1, e2), e2, w3 .word3 .ensures .0, e4, omega (arith, e4, header.few-states _ ok))
+    (omega (arith, e1, e2, header.few-joints _ ok, header.few-clips _ ok), rw (e1, e2), record { clips = e2; parameters = w3 .word3 .ensures .0; states = e4 }, omega (arith, e4, header.few-states _ ok))
 
 returns-4 : tie.Need-returns-4
 unfolding checkWords stateCount planEnd

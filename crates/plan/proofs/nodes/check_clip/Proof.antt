@@ -6,21 +6,19 @@ use Rattle.plan.proofs.nodes.check_clip.Statement.{statement}
 use Rattle.plan.proofs.nodes.check_clip.Tie as tie
 
 returns : tie.Need-returns
-returns c = let pre = c .before .before .before .pre in c .refused .ensures ∙ clip-full _ _ _ _ (pre .1) _ (pre .3) (c .before .if1 .taken)
+returns c = c .refused .ensures ∙ clip-full _ _ _ (c .before .if1 .taken)
 
 returns-2 : tie.Need-returns-2
 returns-2 c =
     let a = c .before .before in
-    let pre = a .before .before .before .pre in
-    clip-stops _ _ _ _ (pre .1) _ (pre .3) (a .before .if1 .left) _ (pre .2) _ (a .word-below .ensures) (c .before .match .keys2)
+    clip-stops _ _ _ (a .before .if1 .left) _ (a .word-below .ensures) (c .before .match .keys2)
 
 returns-3 : tie.Need-returns-3
 returns-3 c =
     let b = c .before .before in
     let told = b .before .before in
     let a = told .before .before in
-    let pre = a .before .before .before .pre in
-    clip-stops-second _ _ _ _ (pre .1) _ (pre .3) (a .before .if1 .left) _ (pre .2) _ (a .word-below .ensures) (told .enum-told .given .1) _ (b .before .word .ensures .0) _ (b .word-is .ensures) (c .before .match2 .keys2)
+    clip-stops-second _ _ _ (a .before .if1 .left) _ (a .word-below .ensures) (told .enum-told .given .1) _ (b .before .word .ensures .0) _ (b .word-is .ensures) (c .before .match2 .keys2)
 
 returns-4 : tie.Need-returns-4
 returns-4 c =
@@ -28,9 +26,7 @@ returns-4 c =
     let b = w .before .before .before in
     let told = b .before .before in
     let a = told .before .before in
-    let pre = a .before .before .before .pre in
-    clip-ends _ _ _ _ (pre .1) _ (pre .3) (a .before .if1 .left) _ (pre .2) _ (a .word-below .ensures) (told .enum-told .given .1) _ (b .before .word .ensures .0) _ (b .word-is .ensures) (w .before .enum-told3 .given .1) _ (w .word2 .ensures .0) _
-    (c .word-is2 .ensures)
+    clip-ends _ _ _ (a .before .if1 .left) _ (a .word-below .ensures) (told .enum-told .given .1) _ (b .before .word .ensures .0) _ (b .word-is .ensures) (w .before .enum-told3 .given .1) _ (w .word2 .ensures .0) _ (c .word-is2 .ensures)
 
 pub check-clip-spec : {M : Type 1} → statement M
 check-clip-spec =

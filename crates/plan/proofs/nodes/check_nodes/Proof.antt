@@ -1,64 +1,60 @@
--- `plan::nodes::check_nodes` meets its contract. Invariant: the first i nodes pass, and the marks and the clip node's number are theirs. Assumes nothing.
+-- `plan::nodes::check_nodes` meets its contract. Invariant: of the state that begins so the first i nodes pass, and the marks and the clip node's number are
+-- theirs. Assumes nothing.
 use borrow.Author.Needs.{needs}
-use Prim.Native.Nat.{_+_, _-_, _≤_}
-use native.Mathlib.Numerals.{add-one}
+use Prim.Native.Nat.{ℕ, _+_, _*_, _-_, _≤_}
 use native.Mathlib.Omega.{arith}
-use mathlib.Core.Path.{_≡_}
-use Rattle.model.specs.Plan.{clipNode}
-use Rattle.model.specs.Check.{checkNode}
 use Rattle.model.proofs.Tags.{never}
-use Rattle.layout.proofs.Laws.{kind-place}
-use Rattle.plan.specs.Parts.{Marks}
-use Rattle.plan.proofs.Laws.{passed, Passing, passing-none, passing-next, passing-stops, passing-all}
-use Rattle.plan.proofs.NodeLaws.{marks-none, marks-all}
+use Rattle.plan.specs.Parts.{Begins}
+use Rattle.plan.proofs.Laws.{passed, passing-stops, passing-all}
+use Rattle.plan.proofs.NodeLaws.{NodesPassed, nodes-none, node-verdict, node-next, has-inputs, clip-node-most, marks-all}
 use Rattle.plan.proofs.nodes.check_nodes.Statement.{statement}
 use Rattle.plan.proofs.nodes.check_nodes.Tie as tie
 
 abbrev Inv-loop : tie.InvT-loop
-Inv-loop plan state nodes-at n clips parameters first-clip-node used₀ clip-node₀ i₀ used clip-node i =
-    Passing (checkNode plan state) n i × Marks plan state i used × (clip-node ≡ clipNode plan state i) × (clip-node ≤ first-clip-node + i)
+Inv-loop plan at n counts first-clip-node used₀ clip-node₀ i₀ used clip-node i =
+    (i ≤ n) × (clip-node ≤ first-clip-node + i) × ((s : ℕ) → Begins plan s at first-clip-node → NodesPassed plan s n i used clip-node)
 
 abbrev μ-loop : tie.MeasureT-loop
-μ-loop plan state nodes-at n clips parameters first-clip-node used₀ clip-node₀ i₀ used clip-node i = n - i
+μ-loop plan at n counts first-clip-node used₀ clip-node₀ i₀ used clip-node i = n - i
 
 loop-holds : tie.Need-loop-holds Inv-loop μ-loop
-loop-holds c = (passing-none _ _, marks-none _ _, c .before .pre .6, omega arith)
-
-check-node-requires : tie.Need-check-node-requires Inv-loop μ-loop
-check-node-requires c κs =
-    let l = c .before .before in
-    let pre = l .before .before .pre in
-    (omega arith, kind-place _ _ _ _ (pre .1), omega arith, pre .3, pre .4, l .loop .inv .2, l .loop .inv .1)
+loop-holds c = (omega arith, omega arith, λ s b. nodes-none _ _ _ _ b _)
 
 returns : tie.Need-returns Inv-loop μ-loop
 returns c =
     let n = c .before .before in
     let i = n .before .before in
+    let l = i .before in
+    let pre = l .before .before .pre in
     let t = c .before .match .keys2 in
-    record { answer = passing-stops (i .before .loop .inv .0) (i .loop-test .taken) _ (n .check-node .ensures) t; marks = λ e. absurd (never _ t e) }
+    record {
+      answer = λ s b. let so-far = l .loop .inv .2 s b in passing-stops (so-far .passing) (i .loop-test .taken) _ (node-verdict _ _ _ _ b so-far (i .loop-test .taken) (pre .1) _ (pre .3) _ (n .check-node .ensures)) t;
+      marks = λ s b e. absurd (never _ t e);
+    }
 
 marked-requires : tie.Need-marked-requires Inv-loop μ-loop
 marked-requires c κs =
     let n = c .before .before in
-    let l = n .before .before .before in
-    (omega arith, kind-place _ _ _ _ (l .before .before .pre .1), omega arith, passed _ _ (c .enum-told .given .1) (n .check-node .ensures), l .loop .inv .1)
-
-counted-requires : tie.Need-counted-requires Inv-loop μ-loop
-counted-requires c κs =
-    let l = c .before .before .before .before .before .before in
-    (kind-place _ _ _ _ (l .before .before .pre .1), omega arith, l .loop .inv .2)
+    (omega arith, has-inputs _ _ _ _ (passed _ _ (c .enum-told .given .1) (n .check-node .ensures)) (omega arith))
 
 loop-again : tie.Need-loop-again Inv-loop μ-loop
 loop-again c =
-    let told = c .before .before in
+    let m = c .before in
+    let told = m .before in
     let n = told .before .before in
-    let l = n .before .before .before in
-    (passing-next (l .loop .inv .0) (n .before .before .loop-test .taken) _ (n .check-node .ensures) (told .enum-told .given .1), rw add-one (c .before .marked .ensures), rw add-one (c .counted .ensures .0), omega arith)
+    let i = n .before .before in
+    let l = i .before in
+    let pre = l .before .before .pre in (
+      omega arith,
+      omega (arith, c .counted .ensures, clip-node-most (l .before .before .args .plan .now) (l .before .before .args .at + 1 + 4 * l .loop .i) (l .loop .clip-node)),
+      λ s b. rw (m .marked .ensures, c .counted .ensures) (node-next _ _ _ _ b (l .loop .inv .2 s b) (i .loop-test .taken) (pre .1) _ (pre .3) _ (n .check-node .ensures) (told .enum-told .given .1)),
+    )
 
 returns-2 : tie.Need-returns-2 Inv-loop μ-loop
 returns-2 c =
     let l = c .before .loop .inv in
-    record { answer = passing-all (l .0) (c .loop-test .left); marks = λ e. marks-all _ _ _ _ (l .1) _ (l .0 .within) (c .loop-test .left) }
+    let out = c .loop-test .left in
+    record { answer = λ s b. passing-all (l .2 s b .passing) out; marks = λ s b e. marks-all _ _ _ _ (l .2 s b .marked) _ (l .0) out }
 
 pub check-nodes-spec : {M : Type 1} → statement M
 check-nodes-spec =
@@ -69,12 +65,13 @@ check-nodes-spec =
     loop-holds
     (search needs)
     (search needs)
-    check-node-requires
+    (search needs)
+    (search needs)
     (search needs)
     (search needs)
     returns
     marked-requires
-    counted-requires
+    (search needs)
     (search needs)
     (search needs)
     loop-again

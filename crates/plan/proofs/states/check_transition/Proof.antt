@@ -1,32 +1,26 @@
 -- `plan::states::check_transition` meets its contract: three words in the definition's order. Assumes nothing.
 use borrow.Author.Needs.{needs}
-use mathlib.Core.Path.{sym, _∙_}
+use Rattle.plan.specs.Parts.{checkTransitionAt}
 use Rattle.plan.proofs.Laws.{stops, goes}
-use Rattle.plan.proofs.StateLaws.{transition-words}
 use Rattle.plan.proofs.states.check_transition.Statement.{statement}
 use Rattle.plan.proofs.states.check_transition.Tie as tie
 
 returns : tie.Need-returns
-returns c =
-    let p = c .before .before in
-    let pre = p .before .before .pre in
-    let t = c .before .match .keys2 in
-    stops _ _ _ t (stops _ _ _ t (rw (pre .2) at (p .word-below .ensures))) ∙ sym (transition-words _ _ _ _ (pre .1))
+unfolding checkTransitionAt
+returns c = let t = c .before .match .keys2 in stops _ _ _ t (stops _ _ _ t (c .before .before .word-below .ensures))
 
 returns-2 : tie.Need-returns-2
+unfolding checkTransitionAt
 returns-2 c =
     let o = c .before .before in
-    let p = o .before .before .before in
-    let pre = p .before .before .pre in
-    stops _ _ _ (c .before .match2 .keys2) (goes _ _ _ _ (o .before .enum-told .given .1) (rw (pre .2) at (p .word-below .ensures)) (o .word-up-to .ensures)) ∙ sym (transition-words _ _ _ _ (pre .1))
+    stops _ _ _ (c .before .match2 .keys2) (goes _ _ _ _ (o .before .enum-told .given .1) (o .before .before .before .word-below .ensures) (o .word-up-to .ensures))
 
 returns-3 : tie.Need-returns-3
+unfolding checkTransitionAt
 returns-3 c =
     let o = c .before .before .before in
-    let p = o .before .before .before in
-    let pre = p .before .before .pre in
-    let two = goes _ _ _ _ (o .before .enum-told .given .1) (rw (pre .2) at (p .word-below .ensures)) (o .word-up-to .ensures) in
-    goes _ _ _ _ (c .before .enum-told3 .given .1) two (rw (pre .3) at (c .word-below2 .ensures)) ∙ sym (transition-words _ _ _ _ (pre .1))
+    let two = goes _ _ _ _ (o .before .enum-told .given .1) (o .before .before .before .word-below .ensures) (o .word-up-to .ensures) in
+    goes _ _ _ _ (c .before .enum-told3 .given .1) two (c .word-below2 .ensures)
 
 pub check-transition-spec : {M : Type 1} → statement M
 check-transition-spec =
