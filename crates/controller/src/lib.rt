@@ -1,35 +1,43 @@
 // Ports controller.rs: the calls on a player. Each takes the player by value and returns it with its answer, but for `update_in_place`, which changes the
 // caller's; none asks anything of its caller.
+use blend_tree::SLOTS;
+use blend_tree::StateAt;
 use blend_tree::synchronize::synchronize_state;
 use frames::FrameParts;
-use frames::refusal;
+use frames::Parts;
 use layout::Layout;
 use layout::state_layout;
 use model::Answer;
+use model::FrameKind;
 use model::Outcome;
 use model::Player;
 use model::Transition;
+use model::limits::INSTANCE_FLOATS;
+use model::limits::MAX_CLIP_NODES;
+use model::limits::MAX_INSTANCES;
+use model::limits::MAX_PARAMETERS;
+use model::refused;
 use plan::Checked;
+use plan::answer_of;
 use plan::check;
 ghost use mathlib.Core.Path.{_≡_};
 ghost use lib.ListN.{replicate};
 ghost use Rattle.model.specs.Numbers.{0f};
-ghost use Rattle.model.specs.Answers.{values, refused};
-ghost use Rattle.model.specs.Plan.{stateCount};
+ghost use Rattle.model.specs.declared.FrameKind.the-variants.{Ordinary, Page};
+ghost use Rattle.model.specs.Plan.{maxParameters, maxClipNodes, stateCount};
 ghost use Rattle.model.specs.Clips.{blankInstances};
 ghost use Rattle.model.specs.Controller.{blank, fresh, synchronizeStates};
-ghost use Rattle.model.specs.Run.{FrameKind, kindOf};
 ghost use Rattle.model.specs.Promises.{Started, Updated, SpeedSet, ParameterSet, Framed};
 ghost use Rattle.blend_tree.specs.Blocks.{Playable};
 ghost use Rattle.frames.specs.Parts.{outcomeOf};
 
-fn blank_instances() -> [f32; 192]
-    ensures { λ r. ⌜ r ≡ blankInstances 64 ⌝ }
+fn blank_instances() -> [f32; MAX_INSTANCES]
+    ensures { λ r. ⌜ r ≡ blankInstances maxClipNodes ⌝ }
 {
-    let mut instances = [0.0f32; 192];
+    let mut instances = [0.0f32; MAX_INSTANCES];
     let mut n = 0;
-    while n < 64 {
-        instances[3 * n + 1] = 1.0;
+    while n < MAX_CLIP_NODES {
+        instances[INSTANCE_FLOATS * n + 1] = 1.0;
         n += 1;
     }
     instances
@@ -44,7 +52,7 @@ fn blank() -> Player
         speed: 1.0,
         state: 0,
         transition: Transition::Idle,
-        parameters: [0.0f32; 32],
+        parameters: [0.0f32; MAX_PARAMETERS],
         instances: instances,
     }
 }
@@ -56,26 +64,21 @@ fn synchronize_states(
     plan: &[u16],
     numbers: &[f32],
     layout: Layout,
-    parameters: &[f32; 32],
-    instances: &mut [f32; 192],
+    parameters: &[f32; MAX_PARAMETERS],
+    instances: &mut [f32; MAX_INSTANCES],
 )
-    requires { ⌜ Playable (now plan) (now numbers) layout × (now parameters ≡ replicate 32 0f) ⌝ }
+    requires { ⌜ Playable (now plan) (now numbers) layout × (now parameters ≡ replicate maxParameters 0f) ⌝ }
     ensures { λ _. ⌜ now (instances .exit) ≡ synchronizeStates (now (plan .entry)) (now (numbers .entry)) (stateCount (now (plan .entry))) (now (instances .entry)) ⌝ }
 {
-    let mut slots = [0u8; 32];
+    let mut slots = [0u8; SLOTS];
     let mut s = 0;
     while s < layout.states {
-        let here = state_layout(plan, layout, s);
-        synchronize_state(
-            plan,
-            numbers,
-            layout,
-            here,
-            parameters,
-            0.0,
-            &mut slots,
-            instances,
-        );
+        let state = StateAt {
+            layout: layout,
+            here: state_layout(plan, layout, s),
+            time: 0.0,
+        };
+        synchronize_state(plan, numbers, state, parameters, &mut slots, instances);
         s += 1;
     }
 }
@@ -97,14 +100,15 @@ pub fn start(plan: &[u16], numbers: &[f32]) -> Outcome
     ensures { λ r. ⌜ Started (now (plan .entry)) (now (numbers .entry)) r ⌝ }
 {
     let checked = check(plan, numbers.len());
+    let answer = answer_of(checked);
     let Checked::Passed(layout) = checked else {
         return Outcome {
-            answer: refusal(checked),
+            answer: answer,
             player: blank(),
         };
     };
     Outcome {
-        answer: Answer::Accepted,
+        answer: answer,
         player: fresh(plan, numbers, layout),
     }
 }
@@ -132,23 +136,14 @@ pub fn speed(mut player: Player, v: f64) -> Player
     player
 }
 
-fn refused(number: usize, player: Player) -> Outcome
-    ensures { λ r. ⌜ (values (r .answer) ≡ refused number 0 0) × (r .player ≡ player) ⌝ }
-{
-    Outcome {
-        answer: Answer::Refused {
-            number: number,
-            place: 0,
-        },
-        player: player,
-    }
-}
-
 pub fn set(mut player: Player, n: usize, v: f32) -> Outcome
     ensures { λ r. ⌜ ParameterSet player n v r ⌝ }
 {
-    if n >= 32 {
-        return refused(8, player);
+    if n >= MAX_PARAMETERS {
+        return Outcome {
+            answer: refused(8, 0),
+            player: player,
+        };
     }
     player.parameters[n] = v;
     Outcome {
@@ -160,18 +155,22 @@ pub fn set(mut player: Player, n: usize, v: f32) -> Outcome
 // ---- frame and page frame
 
 // The player after a frame, with its answer.
-fn outcome(player: Player, parts: FrameParts, instances: [f32; 192]) -> Outcome
-    ensures { λ r. ⌜ r ≡ outcomeOf (player .clock) (player .speed) parts (player .parameters) instances ⌝ }
+fn outcome(
+    parts: Parts,
+    done: FrameParts,
+    parameters: [f32; MAX_PARAMETERS],
+    instances: [f32; MAX_INSTANCES],
+) -> Outcome
+    ensures { λ r. ⌜ r ≡ outcomeOf parts done parameters instances ⌝ }
 {
-    let answer = parts.answer;
-    let transition = parts.transition;
-    let parameters = player.parameters;
+    let answer = done.answer;
+    let transition = done.transition;
     Outcome {
         answer: answer,
         player: Player {
-            clock: player.clock,
-            speed: player.speed,
-            state: parts.state,
+            clock: parts.clock,
+            speed: parts.speed,
+            state: done.state,
             transition: transition,
             parameters: parameters,
             instances: instances,
@@ -181,38 +180,41 @@ fn outcome(player: Player, parts: FrameParts, instances: [f32; 192]) -> Outcome
 
 // Of either kind, over the player's parts.
 fn framed(
-    is_page: bool,
+    kind: FrameKind,
     plan: &[u16],
     numbers: &[f32],
     player: Player,
     ext: f64,
     output: &mut [f32],
 ) -> Outcome
-    ensures { λ r. ⌜ Framed (kindOf «is_page») (now (plan .entry)) (now (numbers .entry)) player ext (now (output .entry)) (now (output .exit)) r ⌝ }
+    ensures { λ r. ⌜ Framed kind (now (plan .entry)) (now (numbers .entry)) player ext (now (output .entry)) (now (output .exit)) r ⌝ }
 {
     let transition = player.transition;
+    let parts = Parts {
+        clock: player.clock,
+        speed: player.speed,
+        state: player.state,
+        transition: transition,
+    };
     let parameters = player.parameters;
     let mut instances = player.instances;
-    let parts = frames::frame(
-        is_page,
+    let done = frames::frame(
+        kind,
         plan,
         numbers,
-        player.clock,
-        player.speed,
-        player.state,
-        transition,
+        parts,
         &parameters,
         &mut instances,
         ext,
         output,
     );
-    outcome(player, parts, instances)
+    outcome(parts, done, parameters, instances)
 }
 
 pub fn frame(plan: &[u16], numbers: &[f32], player: Player, ext: f64, output: &mut [f32]) -> Outcome
-    ensures { λ r. ⌜ Framed FrameKind.ordinary (now (plan .entry)) (now (numbers .entry)) player ext (now (output .entry)) (now (output .exit)) r ⌝ }
+    ensures { λ r. ⌜ Framed Ordinary (now (plan .entry)) (now (numbers .entry)) player ext (now (output .entry)) (now (output .exit)) r ⌝ }
 {
-    framed(false, plan, numbers, player, ext, output)
+    framed(FrameKind::Ordinary, plan, numbers, player, ext, output)
 }
 
 pub fn page_frame(
@@ -222,7 +224,7 @@ pub fn page_frame(
     ext: f64,
     output: &mut [f32],
 ) -> Outcome
-    ensures { λ r. ⌜ Framed FrameKind.page (now (plan .entry)) (now (numbers .entry)) player ext (now (output .entry)) (now (output .exit)) r ⌝ }
+    ensures { λ r. ⌜ Framed Page (now (plan .entry)) (now (numbers .entry)) player ext (now (output .entry)) (now (output .exit)) r ⌝ }
 {
-    framed(true, plan, numbers, player, ext, output)
+    framed(FrameKind::Page, plan, numbers, player, ext, output)
 }

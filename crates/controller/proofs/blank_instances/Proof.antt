@@ -6,16 +6,17 @@ use mathlib.Core.Path.{_≡_, refl, _∙_}
 use mathlib.Core.List.{_++_, append-nil}
 use lib.ListN.{replicate}
 use Rattle.model.specs.Numbers.{0f}
+use Rattle.model.specs.Plan.{maxClipNodes}
 use Rattle.model.specs.Clips.{blankInstances}
 use Rattle.controller.proofs.Laws.{blank-next}
 use Rattle.controller.proofs.blank_instances.Statement.{statement}
 use Rattle.controller.proofs.blank_instances.Tie as tie
 
 abbrev Inv-loop : tie.InvT-loop
-Inv-loop instances₀ n₀ instances n = (n ≤ 64) × (instances ≡ blankInstances n ++ replicate (3 * (64 - n)) 0f)
+Inv-loop instances₀ n₀ instances n = (n ≤ maxClipNodes) × (instances ≡ blankInstances n ++ replicate (3 * (maxClipNodes - n)) 0f)
 
 abbrev μ-loop : tie.MeasureT-loop
-μ-loop instances₀ n₀ instances n = 64 - n
+μ-loop instances₀ n₀ instances n = maxClipNodes - n
 
 loop-holds : tie.Need-loop-holds Inv-loop μ-loop
 unfolding blankInstances
@@ -26,8 +27,8 @@ loop-again c = (omega (arith, c .loop-test .taken), blank-next _ _ (c .loop-test
 
 returns : tie.Need-returns Inv-loop μ-loop
 returns c =
-    let e : c .before .loop .n ≡ 64 = omega arith in
-    rw e at (c .before .loop .inv .1) ∙ append-nil (blankInstances 64)
+    let e : c .before .loop .n ≡ maxClipNodes = omega arith in
+    rw e at (c .before .loop .inv .1) ∙ append-nil (blankInstances maxClipNodes)
 
 pub blank-instances-spec : {M : Type 1} → statement M
 blank-instances-spec =

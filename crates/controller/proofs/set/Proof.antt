@@ -7,7 +7,7 @@ use Rattle.controller.proofs.set.Tie as tie
 
 returns : tie.Need-returns
 unfolding require unlessRefused
-returns c = record { answer = rw (le-ltb _ _ (c .before .if1 .taken)) (c .refused .ensures .0); player = rw (le-ltb _ _ (c .before .if1 .taken)) (c .refused .ensures .1) }
+returns c = let e = le-ltb _ _ (c .before .if1 .taken) in record { answer = rw e (c .refused .ensures); player = rw e }
 
 returns-2 : tie.Need-returns-2
 unfolding values require unlessRefused
