@@ -1,6 +1,5 @@
 -- A state of one node, which is a clip: nothing is synchronised, and its pose is the clip's. And a skeleton of one joint. Assumes nothing.
-use Prim.Native.Nat.{ℕ, _+_, _*_, _<_}
-use native.Mathlib.Nat.{add-zero}
+use Prim.Native.Nat.{ℕ, _<_}
 use native.Mathlib.Omega.{arith}
 use mathlib.Core.Path.{_≡_, refl, sym, _∙_}
 use mathlib.Core.Bool.{Bool, true, false}
@@ -8,13 +7,14 @@ use mathlib.Core.List.{List}
 use lib.Ieee.{Float}
 use borrow.Author.Tests.{eqb-true}
 use Rattle.model.specs.declared.Pose.{Pose}
+use Rattle.model.specs.declared.ClipInstance.{ClipInstance}
 use Rattle.model.specs.declared.Transition.{Transition}
 use Rattle.model.specs.declared.Transition.the-variants.{Idle}
 use Rattle.model.specs.Numbers.{_*₃₂_}
 use Rattle.model.specs.Rotations.{identityMatrix, floats, product}
-use Rattle.model.specs.Pose.{lerp, toMatrix}
+use Rattle.model.specs.Pose.{toMatrix}
 use Rattle.model.specs.Plan.{maxClipNodes, jointCount, nodeCount, isClip, number, Rate}
-use Rattle.model.specs.Clips.{localTime, instanceAt, clipPose}
+use Rattle.model.specs.Clips.{localTime, instanceAt}
 use Rattle.model.specs.Tree.{isTouched, synchronizeNode, synchronizeNodes, synchronize, statePose}
 use Rattle.model.specs.Skeleton.{written}
 use Rattle.model.specs.Laws.State.{a-earlier, few-clip-nodes}
@@ -25,11 +25,11 @@ use Rattle.layout.specs.declared.Node.{Node}
 use Rattle.layout.specs.Layout.{InPlan, nodeOf}
 use Rattle.layout.proofs.Laws.{here-ok, nodes-counted, clips-counted}
 use Rattle.animation.specs.declared.Position.{Position}
-use Rattle.animation.specs.Sampling.{poseFrom}
+use Rattle.blend_tree.specs.Sampling.{samplesAt, poseBetween}
 use Rattle.blend_tree.specs.Blocks.{Playable}
 use Rattle.blend_tree.proofs.NodeLaws.{passes, clip-told, NodeRead}
 use Rattle.blend_tree.proofs.SynchronizeLaws.{other-untouched}
-use Rattle.blend_tree.proofs.PoseLaws.{Positioned, clip-pose, of-clip, root-pose}
+use Rattle.blend_tree.proofs.PoseLaws.{of-clip, root-pose}
 use Rattle.skeleton.specs.Buffer.{stored, jointsWritten}
 use Rattle.skeleton.proofs.Laws.{root-written}
 use Rattle.output_pose.specs.Shown.{JointShown, Shown}
@@ -68,19 +68,13 @@ module _ {plan : List ℕ} {numbers : List Float} {layout : Layout} {here : Stat
       shown-idle plan numbers time instant (here .state) parameters instances old t instances new idle (record { instances = alone parameters time instances; output = s .output parameters })
 
   -- the state's pose is its clip's
-  pub only-pose : {words : Node} → words ≡ nodeOf plan (here .state) 0 → (time local : Float) (instances : List Float) → local ≡ localTime (instanceAt instances (here .«clip_node»)) time
-      → (parameters : List Float) (j : ℕ) → clipPose plan numbers (words .a) j local ≡ statePose plan numbers parameters time (here .state) instances j
-  only-pose {words} e time local instances el parameters j =
+  pub only-pose : {words : Node} {instance : ClipInstance} {p : Position} → words ≡ nodeOf plan (here .state) 0 → (time : Float) (instances : List Float)
+      → instance ≡ instanceAt instances (here .«clip_node») → p ≡ samplesAt plan (words .a) (localTime instance time *₃₂ number plan numbers (Rate (words .a)))
+      → (parameters : List Float) (j : ℕ) → poseBetween numbers layout p j ≡ statePose plan numbers parameters time (here .state) instances j
+  only-pose {words} e time instances ei ep parameters j =
       let r : NodeRead plan here 0 words = record { passes = passes ok; state = inside; below = omega (arith, one); found = e } in
-      of-clip r numbers parameters time instances j local (kind-of-clip e) (rw (clips-counted inside, first-clip-node plan (here .state)) at el)
+      of-clip r numbers parameters time instances j ok (kind-of-clip e) (rw (clips-counted inside, first-clip-node plan (here .state)) at ei) ep
       ∙ rw one at (root-pose inside ok parameters time instances j)
-
--- the first joint's pose in a clip
-pub clip-joint : {plan : List ℕ} {numbers : List Float} {layout : Layout} {c samples before : ℕ} {p : Position} {x : Float} → Positioned plan numbers layout c samples before p x
-    → (low high : ℕ) → low ≡ layout .«poses_at» + ((before + p .first) * layout .joints + 0) * 8 → high ≡ layout .«poses_at» + ((before + p .second) * layout .joints + 0) * 8
-    → (local : Float) → x ≡ local *₃₂ number plan numbers (Rate c)
-    → lerp (poseFrom numbers low) (poseFrom numbers high) (p .factor) ≡ clipPose plan numbers c 0 local
-clip-joint s low high el eh local ex = simp add-zero at (clip-pose s 0 low high el eh local ex 0)
 
 -- a skeleton of one joint
 pub joint-shown : (plan : List ℕ) (numbers : List Float) (time : Float) (state : ℕ) (instances old new : List Float) (pose : Pose) → jointCount plan ≡ 1

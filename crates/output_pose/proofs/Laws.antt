@@ -8,6 +8,7 @@ use mathlib.Core.List.{List}
 use lib.ListN.{length}
 use lib.Ieee.{Float}
 use borrow.Author.Tests.{ltb-true}
+use denote.Enum.Declared.{tagOf}
 use Rattle.model.specs.declared.Pose.{Pose}
 use Rattle.model.specs.declared.Transition.{Transition}
 use Rattle.model.specs.declared.Transition.the-variants.{Idle, Running}
@@ -19,13 +20,19 @@ use Rattle.model.specs.Controller.{isTargetBelow, transitionFactor, currentInst
 use Rattle.model.specs.Skeleton.{jointMatrices, flat, written}
 use Rattle.layout.specs.declared.Layout.{Layout}
 use Rattle.layout.specs.declared.StateLayout.{StateLayout}
-use Rattle.layout.specs.Layout.{stateLayout}
+use Rattle.layout.specs.Layout.{InPlan, stateLayout}
 use Rattle.layout.proofs.Laws.{joints-found, same-state}
 use Rattle.lanes.specs.Lanes.{blockSize, laneAt}
-use Rattle.blend_tree.specs.Blocks.{Filled, Playable}
+use Rattle.blend_tree.specs.declared.StateAt.{StateAt}
+use Rattle.blend_tree.specs.declared.Joints.{Joints}
+use Rattle.blend_tree.specs.Blocks.{Filled, Playable, InBlock, Slots}
 use Rattle.blend_tree.proofs.NodeLaws.{passes}
 use Rattle.skeleton.specs.Buffer.{GlobalPoses, jointsWritten}
-use Rattle.output_pose.specs.Shown.{skeletonOf, StateShown, Blended, Shown}
+use Rattle.output_pose.specs.declared.Showing.{Showing}
+use Rattle.output_pose.specs.declared.Blend.{Blend}
+use Rattle.output_pose.specs.declared.Blend.the-variants.{Alone, Towards}
+use Rattle.output_pose.specs.Shown.{skeletonOf, poseAt, shownPose, TargetReady, Ready, StateShown, Blended, Shown}
+use Rattle.output_pose.proofs.Blend.{the-type as blend-type}
 
 -- ---- blocks
 
@@ -33,6 +40,30 @@ use Rattle.output_pose.specs.Shown.{skeletonOf, StateShown, Blended, Sho
 pub blended : (f g : ℕ → Pose) (factor : Float) (count : ℕ) (x y z : List Float) → Filled f count x → Filled g count y
     → Filled (λ i. lerp (laneAt x i) (laneAt y i) factor) count z → Filled (λ i. lerp (f i) (g i) factor) count z
 blended f g factor count x y z hx hy hz i h = rw (hz i h, hx i h, hy i h)
+
+-- what the tag tells of a blend, and what it makes of the poses
+pub is-alone : (b : Blend) → tagOf blend-type b ≡ 0 → b ≡ Alone
+is-alone Alone t = refl
+is-alone (Towards there factor) t = absurd (omega (arith, t))
+
+module _ (plan : List ℕ) (numbers parameters current instances : List Float) (j : ℕ) (state : StateAt) {b : Blend} where
+  pub pose-alone : b ≡ Alone → poseAt plan numbers parameters current j state ≡ shownPose plan numbers parameters current instances j state b
+  unfolding shownPose
+  pose-alone e = rw e
+
+  pub pose-towards : {there : StateAt} {factor : Float} → b ≡ Towards there factor
+      → lerp (poseAt plan numbers parameters current j state) (poseAt plan numbers parameters instances j there) factor ≡ shownPose plan numbers parameters current instances j state b
+  unfolding shownPose
+  pose-towards e = rw e
+
+-- the other state is one of the plan's
+pub target-known : {plan : List ℕ} {numbers : List Float} {shown : Showing} {slots targetSlots : List ℕ} {joints : Joints} {there : StateAt} {factor : Float}
+    → Ready plan numbers shown slots targetSlots → InBlock (shown .state .layout) joints → shown .blend ≡ Towards there factor
+    → Playable plan numbers (there .layout) × InPlan plan (there .here) × Slots plan (there .here .state) targetSlots × InBlock (there .layout) joints
+unfolding TargetReady
+target-known {plan} {numbers} {shown} {slots} {targetSlots} r i e =
+    let t = rw e at (r .target) in
+    rw (t .0) (r .playable, t .1, t .2, i)
 
 -- what a loop over blocks keeps: the matrices of the joints below `first` are written over the old output
 pub record Through (plan : List ℕ) (layout : Layout) (poseOf : ℕ → Pose) (old new : List Float) (first : ℕ) : Type 0 where

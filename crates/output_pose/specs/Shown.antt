@@ -11,10 +11,42 @@ use Rattle.model.specs.Pose.{lerp}
 use Rattle.model.specs.Tree.{synchronize, statePose}
 use Rattle.model.specs.Controller.{instancesIn, poseIn}
 use Rattle.model.specs.Skeleton.{jointMatrices, written}
+use Rattle.layout.specs.declared.Layout.{Layout}
+use Rattle.layout.specs.Layout.{InPlan}
+use Rattle.blend_tree.specs.declared.StateAt.{StateAt}
+use Rattle.blend_tree.specs.Blocks.{Playable, Slots}
+use Rattle.output_pose.specs.declared.Showing.{Showing}
+use Rattle.output_pose.specs.declared.Blend.{Blend}
+use Rattle.output_pose.specs.declared.Blend.the-variants.{Alone, Towards}
 
 -- the whole output, from the joints' poses
 abbrev pub skeletonOf : List ℕ → (ℕ → Pose) → List Float → List Float
 skeletonOf plan poseOf old = written plan (jointMatrices plan poseOf (jointCount plan)) old
+
+-- ---- a state, blended towards another or not
+
+-- joint j's pose in a state at a time
+abbrev pub poseAt : List ℕ → List Float → List Float → List Float → ℕ → StateAt → Pose
+poseAt plan numbers parameters instances j state = statePose plan numbers parameters (state .time) (state .here .state) instances j
+
+-- as it is shown: the state's by `current`, the other's by `instances`
+unfoldable pub shownPose : List ℕ → List Float → List Float → List Float → List Float → ℕ → StateAt → Blend → Pose
+shownPose plan numbers parameters current instances j state Alone = poseAt plan numbers parameters current j state
+shownPose plan numbers parameters current instances j state (Towards there factor) =
+    lerp (poseAt plan numbers parameters current j state) (poseAt plan numbers parameters instances j there) factor
+
+-- the other is a state of the same plan, with its slots
+unfoldable pub TargetReady : List ℕ → Layout → List ℕ → Blend → Type 0
+TargetReady plan layout slots Alone = Unit
+TargetReady plan layout slots (Towards there factor) = (there .layout ≡ layout) × InPlan plan (there .here) × Slots plan (there .here .state) slots
+
+pub record Ready (plan : List ℕ) (numbers : List Float) (shown : Showing) (slots targetSlots : List ℕ) : Type 0 where
+  pub playable : Playable plan numbers (shown .state .layout)
+  pub inside : InPlan plan (shown .state .here)
+  pub filled : Slots plan (shown .state .here .state) slots
+  pub target : TargetReady plan (shown .state .layout) targetSlots (shown .blend)
+
+-- ---- what is shown
 
 -- the output shows a state that reads no parameter
 pub record JointShown (plan : List ℕ) (numbers : List Float) (time : Float) (state : ℕ) (instances old new : List Float) : Type 0 where
