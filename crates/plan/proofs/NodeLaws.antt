@@ -143,7 +143,7 @@ set-mark marks a k h = go (ℕ-discrete a k)
     go (no e) = rw (ne-eqb a k e, getD-set-other marks a k true false (λ q. e (sym q)), or-false)
 
 module _ (plan : List ℕ) (s i at : ℕ) (place : at ≡ kindAt plan s i) where
-  module _ (marks : List Bool) (so-far : Marks plan s i marks) (l : length marks ≡ maxNodes) (k : ℕ) (h : k < maxNodes) where
+  module _ (marks : List Bool) (so-far : Marks plan s i marks) (l : length marks ≡ maxNodes + 1) (k : ℕ) (h : k < maxNodes) where
     marks-clip : eqb (word plan (kindAt plan s i)) 0 ≡ true → getD (marksAfter plan at marks) k false ≡ used plan s (suc i) k
     unfolding used marksAfter isClip kind
     marks-clip e = rw (place, e) (so-far .mark k h ∙ sym (or-false (used plan s i k)))
@@ -152,7 +152,7 @@ module _ (plan : List ℕ) (s i at : ℕ) (place : at ≡ kindAt plan s i) where
     unfolding used marksAfter isClip kind inputA inputB
     marks-blend e =
         let a = word plan (kindAt plan s i + 1) in
-        rw (place, e, set-mark (set marks a true) (word plan (kindAt plan s i + 2)) k (rw (length-set marks, l) h), set-mark marks a k (rw l h), so-far .mark k h)
+        rw (place, e, set-mark (set marks a true) (word plan (kindAt plan s i + 2)) k (rw (length-set marks, l) (omega arith)), set-mark marks a k (rw l (omega arith)), so-far .mark k h)
         (or-assoc (used plan s i k) _ _)
 
     mark-next : getD (marksAfter plan at marks) k false ≡ used plan s (suc i) k
@@ -191,14 +191,14 @@ clip-node-most plan at n = go _ refl
 -- the first i of k nodes pass; these are their marks, and the next clip node is number n
 pub record NodesPassed (plan : List ℕ) (s k i : ℕ) (marks : List Bool) (n : ℕ) : Type 0 where
   pub passing : Passing (checkNode plan s) k i
-  pub sized : length marks ≡ maxNodes
+  pub sized : length marks ≡ maxNodes + 1
   pub marked : Marks plan s i marks
   pub number : n ≡ clipNode plan s i
 
 module _ (plan : List ℕ) (s at m : ℕ) (begins : Begins plan s at m) where
-  pub nodes-none : (k : ℕ) → NodesPassed plan s k 0 (replicate maxNodes false) m
+  pub nodes-none : (k : ℕ) → NodesPassed plan s k 0 (replicate (maxNodes + 1) false) m
   unfolding used
-  nodes-none k = record { passing = passing-none _ _; sized = length-replicate maxNodes false; marked = record { mark = λ k h. getD-replicate maxNodes k false false h }; number = begins .clips ∙ first-clip-node plan s }
+  nodes-none k = record { passing = passing-none _ _; sized = length-replicate (maxNodes + 1) false; marked = record { mark = λ k h. getD-replicate (maxNodes + 1) k false false (omega arith) }; number = begins .clips ∙ first-clip-node plan s }
 
   node-place : (i : ℕ) → at + 1 + 4 * i ≡ kindAt plan s i
   unfolding kindAt

