@@ -1,4 +1,5 @@
 // A frame and a page frame on the parts of a player, which their owner lends, so that nothing large is copied. `controller` has both on a player by value.
+use blend_tree::StateAt;
 use float::narrow;
 use layout::JOINT_COUNT_AT;
 use layout::Layout;
@@ -72,7 +73,7 @@ fn layout_of(plan: &[u16], layout: Layout, here: StateLayout, state: usize) -> S
     state_layout(plan, layout, state)
 }
 
-// One joint, one clip, and no transition. It is asked here, before the layouts are copied for `show`, which costs more than the pose.
+// One joint, one clip, and no transition. It is asked here, since the way through `show` costs more than the pose.
 fn is_single(joints: usize, nodes: usize, transition: Transition) -> bool
     ensures { λ r. ⌜ (r ≡ true → (joints ≡ 1) × (nodes ≡ 1) × (transition ≡ Transition.Idle)) ⌝ }
 {
@@ -104,22 +105,23 @@ fn play(
     let transition = parts.transition;
     let stepped = step(plan, numbers, before, transition, parameters, instant);
     let next = stepped.transition;
-    let here = layout_of(plan, layout, before, stepped.state);
-    let time = narrow(parts.clock + ext * parts.speed);
-    if is_single(layout.joints, here.nodes, next) {
-        show_joint(plan, numbers, layout, here, instances, time, output);
+    let state = StateAt {
+        layout: layout,
+        here: layout_of(plan, layout, before, stepped.state),
+        time: narrow(parts.clock + ext * parts.speed),
+    };
+    if is_single(layout.joints, state.here.nodes, next) {
+        show_joint(plan, numbers, state, instances, output);
         return stepped;
     }
     show(
         plan,
         numbers,
-        layout,
-        here,
+        state,
         next,
         parameters,
         instances,
         instant,
-        time,
         output,
     );
     stepped
