@@ -18,7 +18,7 @@ ghost use Rattle.model.specs.Text.{maxWord};
 ghost use Rattle.model.specs.Plan.{maxNodes, maxPlan};
 ghost use Rattle.plan.specs.Parts.{CountsOf, isFree, checkClip, checkBlend, checkNodeAt, marksAfter, clipNodeAfter, HasInputs, NodesChecked};
 
-// A mark for each node, and one more: the copies of 32 bytes do not overlap, and so are twice as fast as those of 31.
+// A mark for each node, and one more: a power of two of bytes is copied without overlap, which makes the whole check twice as fast.
 const MARKS: usize = MAX_NODES + 1;
 
 // A node by its number in its state: the word of its kind, and the number that it has if it is a clip.
