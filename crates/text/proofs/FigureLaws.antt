@@ -4,14 +4,14 @@ use native.Mathlib.Nat.{mul-le-mul}
 use native.Mathlib.Numerals.{add-one}
 use native.Mathlib.Omega.{arith}
 use mathlib.Core.Path.{_≡_, refl, sym, subst}
-use mathlib.Core.List.{List, [], _∷_, _++_, map-append}
-use lib.Ieee.{Float, binary32, ofBits}
-use lib.ListN.{length, getD, take, drop, length-drop, length-append, length-map, drop-of-length-le, List·getD-append}
-use lib.Seq.{sets, getD-take, getD-append-seam}
+use mathlib.Core.List.{List, [], _∷_, _++_}
+use lib.Ieee.{Float}
+use lib.ListN.{length, getD, take, drop, length-drop, length-append, drop-of-length-le, List·getD-append}
+use lib.Seq.{sets, getD-append-seam}
 use borrow.Author.Tests.{eq-eqb, ne-eqb}
 use denote.Enum.Declared.{tagOf}
 use Rattle.model.specs.declared.LineKind.the-variants.{Clip, State, Node, Go}
-use Rattle.model.specs.Text.{fieldCount, lineIn, limits, bitsCount, Reading, bad, got, prefixed, andThen, times, floatsOf, readLine, fromState, readState, readEnd, readWords}
+use Rattle.model.specs.Text.{maxWord, forms, fieldCount, lineIn, wordsIn, bitsIn, Reading, bad, got, prefixed, andThen, times, readLine, fromState, readState, readEnd, readWords}
 use Rattle.model.specs.Plan.{maxJoints, maxClips, maxSamples, total}
 use Rattle.model.specs.Laws.Totals.{total-same}
 use Rattle.lines.specs.declared.LineEnd.{LineEnd}
@@ -20,11 +20,11 @@ use Rattle.text.specs.declared.put.Step.{Step}
 use Rattle.text.specs.declared.put.Step.the-variants.{Next, Malformed}
 use Rattle.text.specs.Figures.{sampled, readPoses, readMotion}
 use Rattle.lines.specs.Found.{lineFound}
-use Rattle.text.specs.Steps.{InText, LineAt, stepped}
+use Rattle.text.specs.Steps.{InText, behindLine, withWord, LineAt, Put, stepped}
 use Rattle.lines.proofs.LineEnd.{the-type as end-type}
 use Rattle.text.proofs.put.Step.{the-type as step-type}
-use Rattle.text.proofs.Laws.{take-next, sets-more, follows, goes, stops, moved-nothing}
-use Rattle.text.proofs.LineLaws.{line-bad, line-read, line-bytes, field-count, word-limit}
+use Rattle.text.proofs.Laws.{put-more, put-word, put-behind, follows, goes, stops, moved-nothing}
+use Rattle.text.proofs.LineLaws.{next-of, line-bad, line-read, line-bytes, line-values}
 
 -- ---- the end
 
@@ -53,14 +53,10 @@ module _ {text values : List ℕ} {r : Progress} {at : ℕ} (l : LineAt State te
 
   -- behind the line, with the count of nodes put into the plan
   abbrev pub first : Progress
-  first = record { at = at; line = r .line + 1; words = r .words + 1; numbers = r .numbers }
-
-  -- where the nodes end, with the count of transitions put into the plan
-  abbrev pub behind : Progress → Progress
-  behind q = record { at = q .at; line = q .line; words = q .words + 1; numbers = q .numbers }
+  first = withWord (behindLine r at)
 
   bytes : r .at + 7 ≤ at
-  unfolding limits bitsCount
+  unfolding forms wordsIn bitsIn
   bytes = omega (arith, line-bytes l)
 
   pub first-here : InText text first
@@ -70,38 +66,49 @@ module _ {text values : List ℕ} {r : Progress} {at : ℕ} (l : LineAt State te
   afterNodes s = prefixed (transitions ∷ []) [] 0 (times transitions (readLine Go) s)
 
   state-read : readState (drop (r .at) text) ≡ prefixed (nodes ∷ []) [] 1 (andThen (times nodes (readLine Node) (drop at text)) (λ _. afterNodes))
-  unfolding readState fromState limits bitsCount afterNodes
-  state-read = rw (line-read l, getD-take 2 values 0 0 (omega arith), getD-take 2 values 1 0 (omega arith))
+  unfolding readState fromState forms wordsIn bitsIn afterNodes
+  state-read = rw (line-read l, next-of values 0)
 
-  module _ (p₁ p₂ : List ℕ) (n₀ n₁ : List Float) (step : Step) (a : stepped text first p₁ p₂ n₀ n₁ step (times nodes (readLine Node) (drop at text))) where
+  pub counts-small : (nodes ≤ maxWord) × (transitions ≤ maxWord)
+  unfolding forms
+  counts-small = (omega (arith, line-values l .bounded 0 (omega arith) .1), omega (arith, line-values l .bounded 1 (omega arith) .1))
+
+  -- behind the nodes
+  module _ (f : Progress) (begun : f ≡ first) (p₁ p₂ : List ℕ) (n₀ n₁ : List Float) (step : Step) (a : stepped text f p₁ p₂ n₀ n₁ step (times nodes (readLine Node) (drop (f .at) text))) where
+    nodes-read : stepped text first p₁ p₂ n₀ n₁ step (times nodes (readLine Node) (drop at text))
+    nodes-read = rw begun at a
+
     -- the line had room for the count of transitions too
-    pub behind-here : (q : Progress) → step ≡ Next q → InText text (behind q)
+    pub behind-here : (q : Progress) → step ≡ Next q → InText text (withWord q)
     unfolding stepped
-    behind-here q e = to (times nodes (readLine Node) (drop at text)) (subst (λ (s : Step). stepped text first p₁ p₂ n₀ n₁ s (times nodes (readLine Node) (drop at text))) e a)
+    behind-here q e = to (times nodes (readLine Node) (drop at text)) (subst (λ (s : Step). stepped text first p₁ p₂ n₀ n₁ s (times nodes (readLine Node) (drop at text))) e nodes-read)
       where
-        to : (x : Reading) → stepped text first p₁ p₂ n₀ n₁ (Next q) x → InText text (behind q)
-        to (got ws bs rest n) m = let b = bytes in record { spent = omega (arith, l .here .spent); inside = m .inside }
+        to : (x : Reading) → stepped text first p₁ p₂ n₀ n₁ (Next q) x → InText text (withWord q)
+        to (got ws bs rest n) m = let b = bytes in record { spent = omega (arith, l .here .spent, m .put .words, m .put .numbers); inside = m .inside }
         to (bad n) m = absurd m
 
-    module _ (p₀ : List ℕ) (put : p₁ ≡ sets p₀ (r .words) (nodes ∷ [])) where
+    module _ (h : Progress) (line : h ≡ behindLine r at) (p₀ : List ℕ) (put : p₁ ≡ sets p₀ (h .words) (nodes ∷ [])) where
+      counted : Put (nodes ∷ []) [] r first p₀ p₁ n₀ n₀
+      counted = put-behind r first at (put-word nodes (behindLine r at) p₀ p₁ n₀ (rw line at put))
+
       pub nodes-stop : tagOf step-type step ≡ 1 → stepped text r p₀ p₂ n₀ n₁ step (readState (drop (r .at) text))
       nodes-stop t =
           let b = bytes in
           rw state-read (follows text r first p₀ p₁ p₂ n₀ n₀ n₁ (nodes ∷ []) [] 1 step _
-          record { left = refl; inside = l .inside; spent = omega arith; line = refl; words = refl; numbers = omega arith; plan = put; floats = refl }
-          (stops text first p₁ p₂ n₀ n₁ (times nodes (readLine Node) (drop at text)) step a (λ _. afterNodes) t))
+          record { left = refl; inside = l .inside; spent = omega arith; line = refl; put = counted }
+          (stops text first p₁ p₂ n₀ n₁ (times nodes (readLine Node) (drop at text)) step nodes-read (λ _. afterNodes) t))
 
-      pub state-steps : (q : Progress) (p₃ p₄ : List ℕ) (n₂ : List Float) (last : Step) → step ≡ Next q → p₃ ≡ sets p₂ (q .words) (transitions ∷ [])
-          → stepped text (behind q) p₃ p₄ n₁ n₂ last (times transitions (readLine Go) (drop (q .at) text)) → stepped text r p₀ p₄ n₀ n₂ last (readState (drop (r .at) text))
+      pub state-steps : (q g : Progress) (p₃ p₄ : List ℕ) (n₂ : List Float) (last : Step) → step ≡ Next q → g ≡ withWord q → p₃ ≡ sets p₂ (q .words) (transitions ∷ [])
+          → stepped text g p₃ p₄ n₁ n₂ last (times transitions (readLine Go) (drop (g .at) text)) → stepped text r p₀ p₄ n₀ n₂ last (readState (drop (r .at) text))
       unfolding stepped prefixed andThen afterNodes
-      state-steps q p₃ p₄ n₂ last e then b =
-          rw state-read (of (times nodes (readLine Node) (drop at text)) (subst (λ (s : Step). stepped text first p₁ p₂ n₀ n₁ s (times nodes (readLine Node) (drop at text))) e a))
+      state-steps q g p₃ p₄ n₂ last e first-go then b =
+          rw state-read (of (times nodes (readLine Node) (drop at text)) (subst (λ (s : Step). stepped text first p₁ p₂ n₀ n₁ s (times nodes (readLine Node) (drop at text))) e nodes-read))
         where
           of : (x : Reading) → stepped text first p₁ p₂ n₀ n₁ (Next q) x → stepped text r p₀ p₄ n₀ n₂ last (prefixed (nodes ∷ []) [] 1 (andThen x (λ _. afterNodes)))
           of (bad n) m = absurd m
-          of (got ws bs rest n) m = rw (m .left) (both last (times transitions (readLine Go) (drop (q .at) text)) b)
+          of (got ws bs rest n) m = rw (m .left) (both last (times transitions (readLine Go) (drop (q .at) text)) (rw first-go at b))
             where
-              both : (last : Step) (y : Reading) → stepped text (behind q) p₃ p₄ n₁ n₂ last y
+              both : (last : Step) (y : Reading) → stepped text (withWord q) p₃ p₄ n₁ n₂ last y
                   → stepped text r p₀ p₄ n₀ n₂ last (prefixed (nodes ∷ []) [] 1 (prefixed ws bs n (prefixed (transitions ∷ []) [] 0 y)))
               both (Next z) (bad k) g = g
               both (Malformed k) (got vs cs left k′) g = g
@@ -110,18 +117,14 @@ module _ {text values : List ℕ} {r : Progress} {at : ℕ} (l : LineAt State te
                   let room = bytes in
                   let lw = length-append ws (transitions ∷ vs) in
                   let lb = length-append bs cs in
-                  let lf : length (floatsOf bs) ≡ length bs = length-map bs (ofBits binary32) in
                   record {
                     left = g .left;
                     inside = g .inside;
-                    spent = omega arith;
+                    spent = omega (arith, m .spent, g .spent);
                     line = omega arith;
-                    words = omega arith;
-                    numbers = omega arith;
-                    plan = sets-more p₀ p₁ p₄ (r .words) (r .words + 1) (nodes ∷ []) (ws ++ (transitions ∷ vs)) put refl
-                        (sets-more p₁ p₂ p₄ (r .words + 1) (q .words) ws (transitions ∷ vs) (m .plan) (m .words)
-                        (sets-more p₂ p₃ p₄ (q .words) (q .words + 1) (transitions ∷ []) vs then refl (g .plan)));
-                    floats = rw (map-append (ofBits binary32) bs cs) (sets-more n₀ n₁ n₂ (r .numbers) (q .numbers) (floatsOf bs) (floatsOf cs) (m .floats) (omega arith) (g .floats));
+                    put = put-more r first z p₀ p₁ p₄ n₀ n₀ n₂ (nodes ∷ []) [] (ws ++ (transitions ∷ vs)) (bs ++ cs) counted
+                        (put-more first q z p₁ p₂ p₄ n₀ n₁ n₂ ws bs (transitions ∷ vs) cs (m .put)
+                        (put-more q (withWord q) z p₂ p₃ p₄ n₁ n₁ n₂ (transitions ∷ []) [] vs cs (put-word transitions q p₂ p₃ n₁ then) (g .put)));
                   }
 
 -- ---- clips, whose samples are summed up
@@ -134,24 +137,22 @@ total-more ws v =
 
 module _ {text values : List ℕ} {q : Progress} {at : ℕ} (l : LineAt Clip text values q at) where
   pub few-samples : getD values 0 0 ≤ maxSamples
-  unfolding limits
-  few-samples = word-limit l 0 (omega arith)
+  unfolding forms
+  few-samples = line-values l .bounded 0 (omega arith) .0
 
   pub sampled-next : (r : Progress) (p₀ p₁ : List ℕ) (n₀ n₁ : List Float) (i m : ℕ)
       → stepped text r p₀ p₁ n₀ n₁ (Next q) (times i (readLine Clip) (drop (r .at) text)) → sampled i m (times i (readLine Clip) (drop (r .at) text))
       → sampled (i + 1) (m + getD values 0 0) (times (i + 1) (readLine Clip) (drop (r .at) text))
-  unfolding stepped sampled andThen prefixed times limits bitsCount
+  unfolding stepped sampled andThen prefixed times forms wordsIn bitsIn
   sampled-next r p₀ p₁ n₀ n₁ i m a b = rw add-one (more (times i (readLine Clip) (drop (r .at) text)) a b)
     where
       more : (x : Reading) → stepped text r p₀ p₁ n₀ n₁ (Next q) x → sampled i m x → sampled (suc i) (m + getD values 0 0) (andThen x (λ _. readLine Clip))
       more (bad n) a b = absurd a
       more (got ws bs rest n) a b =
           let v = getD values 0 0 in
-          let long = field-count l .1 in
           let few = few-samples in
-          let one : take 1 values ≡ v ∷ [] = take-next values 0 (omega arith) in
           let sum : total (λ c. getD (ws ++ (v ∷ [])) c 0) (suc i) ≡ total (λ c. getD ws c 0) i + v = rw (b .0) at (total-more ws v) in
-          rw (a .left, line-read l, one, length-append, sum) (omega arith, omega arith, omega arith)
+          rw (a .left, line-read l, length-append, sum) (omega arith, omega arith, omega arith)
 
 pub sampled-start : (s : List ℕ) → sampled 0 0 (times 0 (readLine Clip) s)
 unfolding sampled times total
@@ -160,10 +161,12 @@ sampled-start s = (refl, refl, omega arith)
 pub sampled-ends : (s : List ℕ) (i count m : ℕ) → sampled i m (times i (readLine Clip) s) → i ≤ count → count ≤ i → sampled count m (times count (readLine Clip) s)
 sampled-ends s i count m a h k = let e : count ≡ i = omega arith in rw e a
 
-pub sampled-bad : (text : List ℕ) (r : Progress) (p₀ p₁ : List ℕ) (n₀ n₁ : List Float) (x : Reading) (line count m : ℕ) → stepped text r p₀ p₁ n₀ n₁ (Malformed line) x → sampled count m x
+pub sampled-bad : (text : List ℕ) (r : Progress) (p₀ p₁ : List ℕ) (n₀ n₁ : List Float) (x : Reading) (step : Step) (count m : ℕ)
+    → tagOf step-type step ≡ 1 → stepped text r p₀ p₁ n₀ n₁ step x → sampled count m x
 unfolding stepped sampled
-sampled-bad text r p₀ p₁ n₀ n₁ (got ws bs rest n) line count m a = absurd a
-sampled-bad text r p₀ p₁ n₀ n₁ (bad n) line count m a = tt
+sampled-bad text r p₀ p₁ n₀ n₁ (got ws bs rest n) (Malformed line) count m t a = absurd a
+sampled-bad text r p₀ p₁ n₀ n₁ (got ws bs rest n) (Next q) count m t a = absurd (omega (arith, t))
+sampled-bad text r p₀ p₁ n₀ n₁ (bad n) step count m t a = tt
 
 -- ---- clips, states and poses
 

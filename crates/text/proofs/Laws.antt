@@ -7,39 +7,47 @@ use native.Mathlib.Omega.{arith}
 use mathlib.Core.Path.{_≡_, refl, subst, _∙_}
 use mathlib.Core.List.{List, [], _∷_, _++_, map-append}
 use lib.Ieee.{Float, binary32, ofBits}
-use lib.ListN.{length, getD, take, drop, length-append, length-map}
-use lib.Seq.{sets, take-suc, length-take-le}
+use lib.ListN.{length, drop, length-append, length-map}
+use lib.Seq.{sets}
 use denote.Enum.Declared.{tagOf}
 use Rattle.model.specs.Text.{Reading, bad, got, prefixed, andThen, times, floatsOf, readWords}
 use Rattle.text.specs.declared.put.Progress.{Progress}
 use Rattle.text.specs.declared.put.Step.{Step}
 use Rattle.text.specs.declared.put.Step.the-variants.{Next, Malformed}
 use Rattle.model.specs.Laws.Stores.{sets-append}
-use Rattle.text.specs.Steps.{InText, Moved, stepped}
+use Rattle.text.specs.Steps.{InText, behindLine, withWord, Put, Moved, stepped}
 use Rattle.text.proofs.put.Step.{the-type as step-type}
 
--- ---- runs of stores
+-- ---- what is put
 
 module _ {ℓ} {A : Type ℓ} where
   -- stores behind those that were made before
   pub sets-more : (xs ys zs : List A) (n m : ℕ) (us vs : List A) → ys ≡ sets xs n us → m ≡ n + length us → zs ≡ sets ys m vs → zs ≡ sets xs n (us ++ vs)
   sets-more xs ys zs n m us vs p e q = q ∙ rw (p, e) (sets-append xs n us vs)
 
-pub take-next : (vs : List ℕ) (k : ℕ) → k < length vs → take (k + 1) vs ≡ take k vs ++ (getD vs k 0 ∷ [])
-take-next vs k h = rw add-one (take-suc vs k 0 h)
+-- what is put behind what was put before
+module _ (r q z : Progress) (p₀ p₁ p₂ : List ℕ) (n₀ n₁ n₂ : List Float) (ws bs ws′ bs′ : List ℕ) where
+  pub put-more : Put ws bs r q p₀ p₁ n₀ n₁ → Put ws′ bs′ q z p₁ p₂ n₁ n₂ → Put (ws ++ ws′) (bs ++ bs′) r z p₀ p₂ n₀ n₂
+  put-more a b =
+      let lw = length-append ws ws′ in
+      let lb = length-append bs bs′ in
+      let lf : length (floatsOf bs) ≡ length bs = length-map bs (ofBits binary32) in
+      record {
+        words = omega arith;
+        numbers = omega arith;
+        plan = sets-more p₀ p₁ p₂ (r .words) (q .words) ws ws′ (a .plan) (a .words) (b .plan);
+        floats = rw map-append (sets-more n₀ n₁ n₂ (r .numbers) (q .numbers) (floatsOf bs) (floatsOf bs′) (a .floats) (omega arith) (b .floats));
+      }
 
--- one more word in the plan, and one more float in the numbers
-pub word-next : (xs ys zs vs : List ℕ) (n k : ℕ) → k < length vs → ys ≡ sets xs n (take k vs) → zs ≡ sets ys (n + k) (getD vs k 0 ∷ []) → zs ≡ sets xs n (take (k + 1) vs)
-word-next xs ys zs vs n k h p q =
-    let l = length-take-le k vs (omega arith) in
-    rw (take-next vs k h) (sets-more xs ys zs n (n + k) (take k vs) (getD vs k 0 ∷ []) p (omega arith) q)
+pub put-nothing : (r : Progress) (p : List ℕ) (n : List Float) → Put [] [] r r p p n n
+put-nothing r p n = record { words = omega arith; numbers = omega arith; plan = refl; floats = refl }
 
-pub float-next : (xs ys zs : List Float) (vs : List ℕ) (n k : ℕ) → k < length vs → ys ≡ sets xs n (floatsOf (take k vs))
-    → zs ≡ sets ys (n + k) (floatsOf (getD vs k 0 ∷ [])) → zs ≡ sets xs n (floatsOf (take (k + 1) vs))
-float-next xs ys zs vs n k h p q =
-    let l = length-take-le k vs (omega arith) in
-    let m : length (floatsOf (take k vs)) ≡ length (take k vs) = length-map (take k vs) (ofBits binary32) in
-    rw (take-next vs k h, map-append) (sets-more xs ys zs n (n + k) (floatsOf (take k vs)) (floatsOf (getD vs k 0 ∷ [])) p (omega arith) q)
+pub put-word : (v : ℕ) (r : Progress) (p₀ p₁ : List ℕ) (n : List Float) → p₁ ≡ sets p₀ (r .words) (v ∷ []) → Put (v ∷ []) [] r (withWord r) p₀ p₁ n n
+put-word v r p₀ p₁ n e = record { words = refl; numbers = omega arith; plan = e; floats = refl }
+
+-- behind the line nothing is put yet
+pub put-behind : {ws bs p₀ p₁ : List ℕ} {n₀ n₁ : List Float} (r q : Progress) (at : ℕ) → Put ws bs (behindLine r at) q p₀ p₁ n₀ n₁ → Put ws bs r q p₀ p₁ n₀ n₁
+put-behind r q at put = record { words = put .words; numbers = put .numbers; plan = put .plan; floats = put .floats }
 
 -- ---- one reading after another
 
@@ -64,17 +72,7 @@ module _ (text : List ℕ) (r : Progress) (p₀ p₁ : List ℕ) (n₀ n₁ : Li
 
 -- to stay is a step too
 pub moved-nothing : (text : List ℕ) (r : Progress) (rest p : List ℕ) (n : List Float) → InText text r → rest ≡ drop (r .at) text → Moved text [] [] rest 0 r r p p n n
-moved-nothing text r rest p n h e =
-    record {
-      left = e;
-      inside = h .inside;
-      spent = omega arith;
-      line = omega arith;
-      words = omega arith;
-      numbers = omega arith;
-      plan = refl;
-      floats = refl;
-    }
+moved-nothing text r rest p n h e = record { left = e; inside = h .inside; spent = omega arith; line = omega arith; put = put-nothing r p n }
 
 module _ (text : List ℕ) (r q : Progress) (p₀ p₁ p₂ : List ℕ) (n₀ n₁ n₂ : List Float) where
   moved-more : (ws bs rest ws′ bs′ rest′ : List ℕ) (n m : ℕ) (z : Progress)
@@ -82,17 +80,7 @@ module _ (text : List ℕ) (r q : Progress) (p₀ p₁ p₂ : List ℕ) (n₀ n�
   moved-more ws bs rest ws′ bs′ rest′ n m z a b =
       let lw = length-append ws ws′ in
       let lb = length-append bs bs′ in
-      let lf : length (floatsOf bs) ≡ length bs = length-map bs (ofBits binary32) in
-      record {
-        left = b .left;
-        inside = b .inside;
-        spent = omega arith;
-        line = omega arith;
-        words = omega arith;
-        numbers = omega arith;
-        plan = sets-more p₀ p₁ p₂ (r .words) (q .words) ws ws′ (a .plan) (a .words) (b .plan);
-        floats = rw map-append (sets-more n₀ n₁ n₂ (r .numbers) (q .numbers) (floatsOf bs) (floatsOf bs′) (a .floats) (omega arith) (b .floats));
-      }
+      record { left = b .left; inside = b .inside; spent = omega arith; line = omega arith; put = put-more r q z p₀ p₁ p₂ n₀ n₁ n₂ ws bs ws′ bs′ (a .put) (b .put) }
 
   -- what is read behind what was read before
   pub follows : (ws bs : List ℕ) (n : ℕ) (step : Step) (x : Reading) → Moved text ws bs (drop (q .at) text) n r q p₀ p₁ n₀ n₁

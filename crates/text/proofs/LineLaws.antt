@@ -1,26 +1,31 @@
--- One line: what is known of its values, and the step that it makes. Assumes nothing.
-use Prim.Native.Nat.{ℕ, _+_, _*_, _≤_, _<_, _^_}
+-- One line: its values by their forms, what is known of them, and the step that it makes. Assumes nothing.
+use Prim.Native.Nat.{ℕ, zero, suc, _+_, _*_, _≤_, _<_, _^_}
+use native.Mathlib.Numerals.{add-one}
 use native.Mathlib.Omega.{arith}
-use mathlib.Core.Path.{_≡_, refl, subst}
-use mathlib.Core.Bool.{true}
-use mathlib.Core.List.{List}
+use mathlib.Core.Path.{_≡_, refl, ap, subst, _∙_}
+use mathlib.Core.Bool.{Bool, true, false}
+use mathlib.Core.List.{List, [], _∷_, _++_}
 use lib.Ieee.{Float}
 use lib.ListN.{length, getD, take, drop, length-drop, length-take}
-use lib.Seq.{sets, length-take-le, take-take, take-add, drop-at, getD-take}
-use lib.Dec.{leb}
-use borrow.Author.Tests.{leb-true}
+use lib.Seq.{sets, length-take-le, take-suc, take-length, getD-take}
+use lib.Dec.{T}
 use denote.Enum.Declared.{tagOf}
 use Rattle.model.specs.declared.LineKind.{LineKind}
-use Rattle.model.specs.declared.LineKind.the-variants.{Figure, Joint, Clip, State, Node, Go, Pose}
-use Rattle.model.specs.Text.{lineIn, limits, bitsCount, decimalCount, fieldCount, bad, got, fromLine, readLine, floatsOf}
-use Rattle.model.specs.Laws.Text.{LineLaw, line-law}
+use Rattle.model.specs.declared.FieldForm.{FieldForm}
+use Rattle.model.specs.declared.FieldForm.the-variants.{Decimal, Bits}
+use Rattle.model.specs.Text.{front, maxWord, forms, fieldCount, formOf, lineIn, wordsIn, bitsIn, bad, got, fromLine, readLine, floatsOf}
+use Rattle.model.specs.Laws.Text.{Bounded, LineLaw, line-law}
 use Rattle.lines.specs.declared.LineEnd.{LineEnd}
 use Rattle.lines.specs.declared.LineEnd.the-variants as end
 use Rattle.text.specs.declared.put.Progress.{Progress}
+use Rattle.text.specs.declared.put.Step.{Step}
 use Rattle.text.specs.declared.put.Step.the-variants.{Next, Malformed}
 use Rattle.lines.specs.Found.{lineFound}
-use Rattle.text.specs.Steps.{InText, LineAt, Moved, stepped}
+use Rattle.lines.specs.Reading.{maxFields}
+use Rattle.lines.proofs.Laws.{fields-few}
+use Rattle.text.specs.Steps.{InText, behindLine, withWord, withNumber, Room, LineValues, LineAt, Put, Stays, valued, stepped}
 use Rattle.lines.proofs.LineEnd.{the-type as end-type}
+use Rattle.text.proofs.Laws.{put-more, put-nothing, put-word, put-behind}
 
 -- ---- what `line_at` found
 
@@ -43,72 +48,163 @@ module _ (kind : LineKind) (text values : List ℕ) (r : Progress) (found : Line
   unfolding stepped
   line-stops p₀ p₁ n₀ n₁ t = rw (line-bad t)
 
--- ---- a line's values
+-- ---- values by their forms
 
-few-fields : (kind : LineKind) → leb (fieldCount kind) 8 ≡ true
-unfolding limits bitsCount
-few-fields Figure = refl
-few-fields Joint = refl
-few-fields Clip = refl
-few-fields State = refl
-few-fields Node = refl
-few-fields Go = refl
-few-fields Pose = refl
+-- behind the first
+pub next-of : (vs : List ℕ) (k : ℕ) → getD (drop 1 vs) k 0 ≡ getD vs (suc k) 0
+next-of [] k = refl
+next-of (v ∷ vs) k = refl
+
+values-count : (fs : List FieldForm) (vs : List ℕ) → length (wordsIn fs vs) + length (bitsIn fs vs) ≡ length fs
+unfolding wordsIn bitsIn
+values-count [] vs = refl
+values-count (Decimal limit ∷ fs) vs = omega (arith, values-count fs (drop 1 vs))
+values-count (Bits ∷ fs) vs = omega (arith, values-count fs (drop 1 vs))
+
+-- of one more field
+words-more : (fs : List FieldForm) (vs : List ℕ) (form : FieldForm) → wordsIn (fs ++ (form ∷ [])) vs ≡ wordsIn fs vs ++ wordsIn (form ∷ []) (getD vs (length fs) 0 ∷ [])
+unfolding wordsIn
+words-more [] vs (Decimal limit) = refl
+words-more [] vs Bits = refl
+words-more (Decimal limit ∷ fs) vs form = ap (_∷_ (front vs)) (rw next-of at (words-more fs (drop 1 vs) form))
+words-more (Bits ∷ fs) vs form = rw next-of at (words-more fs (drop 1 vs) form)
+
+bits-more : (fs : List FieldForm) (vs : List ℕ) (form : FieldForm) → bitsIn (fs ++ (form ∷ [])) vs ≡ bitsIn fs vs ++ bitsIn (form ∷ []) (getD vs (length fs) 0 ∷ [])
+unfolding bitsIn
+bits-more [] vs (Decimal limit) = refl
+bits-more [] vs Bits = refl
+bits-more (Decimal limit ∷ fs) vs form = rw next-of at (bits-more fs (drop 1 vs) form)
+bits-more (Bits ∷ fs) vs form = ap (_∷_ (front vs)) (rw next-of at (bits-more fs (drop 1 vs) form))
+
+-- what stands behind the last field is not read
+words-take : (fs : List FieldForm) (vs : List ℕ) → wordsIn fs (take (length fs) vs) ≡ wordsIn fs vs
+unfolding wordsIn
+words-take [] vs = refl
+words-take (form ∷ fs) [] = refl
+words-take (Decimal limit ∷ fs) (v ∷ vs) = ap (_∷_ v) (words-take fs vs)
+words-take (Bits ∷ fs) (v ∷ vs) = words-take fs vs
+
+bits-take : (fs : List FieldForm) (vs : List ℕ) → bitsIn fs (take (length fs) vs) ≡ bitsIn fs vs
+unfolding bitsIn
+bits-take [] vs = refl
+bits-take (form ∷ fs) [] = refl
+bits-take (Decimal limit ∷ fs) (v ∷ vs) = bits-take fs vs
+bits-take (Bits ∷ fs) (v ∷ vs) = ap (_∷_ v) (bits-take fs vs)
+
+-- where all fields are decimals the words are the values
+abbrev decimals : List FieldForm → Bool
+decimals [] = true
+decimals (Decimal limit ∷ fs) = decimals fs
+decimals (Bits ∷ fs) = false
+
+pub word-at : (fs : List FieldForm) (vs : List ℕ) → T (decimals fs) → (k : ℕ) → k < length fs → getD (wordsIn fs vs) k 0 ≡ getD vs k 0
+unfolding wordsIn
+word-at [] vs t k h = absurd (omega arith)
+word-at (Decimal limit ∷ fs) vs t zero h = refl
+word-at (Decimal limit ∷ fs) vs t (suc k) h = word-at fs (drop 1 vs) t k (omega arith) ∙ next-of vs k
+word-at (Bits ∷ fs) vs t k h = absurd t
+
+-- ---- one value, put
+
+module _ {form : FieldForm} {limit : ℕ} (value : ℕ) (e : form ≡ Decimal limit) where
+  pub decimal-bounded : Bounded form value → value ≤ maxWord
+  decimal-bounded b = let w : Bounded (Decimal limit) value = rw e at b in omega (arith, w .1)
+
+  pub word-put : {r q : Progress} {p₀ p₁ : List ℕ} {n : List Float} → q ≡ withWord r → p₁ ≡ sets p₀ (r .words) (value ∷ [])
+      → Put (wordsIn (form ∷ []) (value ∷ [])) (bitsIn (form ∷ []) (value ∷ [])) r q p₀ p₁ n n × Stays r q
+  unfolding wordsIn bitsIn
+  word-put {r} {q} {p₀} {p₁} {n} f p = rw (e, f) (put-word value r p₀ p₁ n p, (refl, refl))
+
+module _ {form : FieldForm} (value : ℕ) (e : form ≡ Bits) where
+  pub bits-bounded : Bounded form value → value < 2 ^ 32
+  bits-bounded b = rw e at b
+
+  pub number-put : {r q : Progress} {p : List ℕ} {n₀ n₁ : List Float} → q ≡ withNumber r → n₁ ≡ sets n₀ (r .numbers) (floatsOf (value ∷ []))
+      → Put (wordsIn (form ∷ []) (value ∷ [])) (bitsIn (form ∷ []) (value ∷ [])) r q p p n₀ n₁ × Stays r q
+  unfolding wordsIn bitsIn
+  number-put f p = rw (e, f) (record { words = omega arith; numbers = refl; plan = refl; floats = p }, (refl, refl))
+
+-- ---- a line's first k values, put
+
+pub record FirstPut (kind : LineKind) (values : List ℕ) (r : Progress) (p₀ : List ℕ) (n₀ : List Float) (q : Progress) (p₁ : List ℕ) (n₁ : List Float) (k : ℕ) : Type 0 where
+  pub most : k ≤ fieldCount kind
+  pub put : Put (wordsIn (take k (forms kind)) values) (bitsIn (take k (forms kind)) values) r q p₀ p₁ n₀ n₁
+  pub stays : Stays r q
+
+module _ {kind : LineKind} {values : List ℕ} {r : Progress} {p₀ : List ℕ} {n₀ : List Float} where
+  pub none-put : FirstPut kind values r p₀ n₀ r p₀ n₀ 0
+  unfolding wordsIn bitsIn
+  none-put = record { most = omega arith; put = put-nothing r p₀ n₀; stays = (refl, refl) }
+
+  module _ {q : Progress} {p₁ : List ℕ} {n₁ : List Float} {k : ℕ} (f : FirstPut kind values r p₀ n₀ q p₁ n₁ k) where
+    pub room-left : k < fieldCount kind → Room maxFields r → Room 1 q
+    room-left h room =
+        let few = fields-few kind in
+        let n = values-count (take k (forms kind)) values in
+        let l = length-take-le k (forms kind) (omega arith) in
+        record { words = omega (arith, room .words, f .put .words); numbers = omega (arith, room .numbers, f .put .numbers) }
+
+    pub next-put : k < fieldCount kind → {form : FieldForm} → form ≡ formOf kind k → (z : Progress) (p₂ : List ℕ) (n₂ : List Float)
+        → Put (wordsIn (form ∷ []) (getD values k 0 ∷ [])) (bitsIn (form ∷ []) (getD values k 0 ∷ [])) q z p₁ p₂ n₁ n₂ → Stays q z
+        → FirstPut kind values r p₀ n₀ z p₂ n₂ (k + 1)
+    next-put h {form} e z p₂ n₂ put still =
+        let l = length-take-le k (forms kind) (omega arith) in
+        let more : take (suc k) (forms kind) ≡ take k (forms kind) ++ (form ∷ []) = rw e (take-suc (forms kind) k Bits h) in
+        record {
+          most = omega arith;
+          put = rw (add-one, more, words-more, bits-more, l) (put-more r q z p₀ p₁ p₂ n₀ n₁ n₂ _ _ _ _ (f .put) put);
+          stays = (still .0 ∙ f .stays .0, still .1 ∙ f .stays .1);
+        }
+
+    pub all-put : fieldCount kind ≤ k → Put (wordsIn (forms kind) values) (bitsIn (forms kind) values) r q p₀ p₁ n₀ n₁
+    all-put h =
+        let e : k ≡ fieldCount kind = omega arith in
+        rw (e, take-length (forms kind)) at (f .put)
+
+-- ---- a line's values
 
 module _ {kind : LineKind} {text values : List ℕ} {r : Progress} {at : ℕ} (l : LineAt kind text values r at) where
   law : LineLaw kind (drop (r .at) text) (take (fieldCount kind) values) (drop at text)
   law = line-law kind (drop (r .at) text) (take (fieldCount kind) values) (drop at text) (l .reading)
 
-  -- the array holds them all
-  pub field-count : (fieldCount kind ≤ 8) × (fieldCount kind ≤ length values)
-  field-count = (leb-true _ _ (few-fields kind), omega (arith, law .count, length-take (fieldCount kind) values))
+  pub line-values : LineValues kind values
+  line-values =
+      record {
+        count = omega (arith, law .count, length-take (fieldCount kind) values);
+        bounded = λ k h. rw (getD-take (fieldCount kind) values k 0 h) at (law .value k h);
+      }
 
-  pub word-limit : (k : ℕ) → k < decimalCount kind → getD values k 0 ≤ getD (limits kind) k 0
-  word-limit k h = rw (getD-take (fieldCount kind) values k 0 (omega arith)) at (law .limit k h)
+  pub line-bytes : r .at + 3 + 2 * length (wordsIn (forms kind) values) + 9 * length (bitsIn (forms kind) values) ≤ at
+  line-bytes = omega (arith, rw (words-take, bits-take) at (law .spent), length-drop (r .at) text, length-drop at text, l .here .inside, l .inside)
 
-  pub word-small : (k : ℕ) → k < decimalCount kind → getD values k 0 < 65536
-  word-small k h = rw (getD-take (fieldCount kind) values k 0 (omega arith)) at (law .word k h)
-
-  pub bits-small : (k : ℕ) → k < bitsCount kind → getD values (decimalCount kind + k) 0 < 2 ^ 32
-  bits-small k h = rw (getD-take (fieldCount kind) values (decimalCount kind + k) 0 (omega arith)) at (law .pattern k h)
-
-  pub line-bytes : r .at + 3 + 2 * decimalCount kind + 9 * bitsCount kind ≤ at
-  line-bytes = omega (arith, law .spent, length-drop (r .at) text, length-drop at text, l .here .inside, l .inside)
+  pub line-room : at < 2 ^ 64 → Room maxFields (behindLine r at)
+  line-room h = record { words = omega (arith, line-bytes, l .here .spent); numbers = omega (arith, line-bytes, l .here .spent) }
 
   -- ---- its reading, and its step
 
-  pub line-read : readLine kind (drop (r .at) text) ≡ got (take (decimalCount kind) values) (take (bitsCount kind) (drop (decimalCount kind) values)) (drop at text) 1
+  pub line-read : readLine kind (drop (r .at) text) ≡ got (wordsIn (forms kind) values) (bitsIn (forms kind) values) (drop at text) 1
   unfolding readLine fromLine
-  line-read =
-      let d = decimalCount kind in
-      let b = bitsCount kind in
-      let long = field-count .1 in
-      let w : take d (take (d + b) values) ≡ take d values = take-take d (d + b) values (omega arith) in
-      let v : drop d (take (d + b) values) ≡ take b (drop d values) = rw take-add (drop-at (take d values) (take b (drop d values)) d (length-take-le d values (omega arith))) in
-      rw (l .reading, w, v)
+  line-read = rw (l .reading, words-take, bits-take)
 
-  pub line-moved : (d b : ℕ) (p₀ p₁ : List ℕ) (n₀ n₁ : List Float) → d ≡ decimalCount kind → b ≡ bitsCount kind
-      → p₁ ≡ sets p₀ (r .words) (take d values) → n₁ ≡ sets n₀ (r .numbers) (floatsOf (take b (drop d values)))
-      → Moved text (take (decimalCount kind) values) (take (bitsCount kind) (drop (decimalCount kind) values)) (drop at text) 1
-      r record { at = at; line = r .line + 1; words = r .words + d; numbers = r .numbers + b } p₀ p₁ n₀ n₁
-  line-moved d b p₀ p₁ n₀ n₁ e f p n =
-      let long = field-count .1 in
-      let w = length-take-le (decimalCount kind) values (omega arith) in
-      let v = length-take-le (bitsCount kind) (drop (decimalCount kind) values) (omega (arith, length-drop (decimalCount kind) values)) in
-      let bytes = line-bytes in
-      record {
-        left = refl;
-        inside = l .inside;
-        spent = omega arith;
-        line = refl;
-        words = omega arith;
-        numbers = omega arith;
-        plan = rw e at p;
-        floats = rw (e, f) at n;
-      }
+  module _ {q : Progress} {p₀ p₁ : List ℕ} {n₀ n₁ : List Float} (still : Stays (behindLine r at) q)
+      (put : Put (wordsIn (forms kind) values) (bitsIn (forms kind) values) (behindLine r at) q p₀ p₁ n₀ n₁) where
+    pub line-steps : stepped text r p₀ p₁ n₀ n₁ (Next q) (readLine kind (drop (r .at) text))
+    unfolding stepped
+    line-steps =
+        let bytes = line-bytes in
+        rw line-read record {
+          left = rw (still .0);
+          inside = omega (arith, still .0, l .inside);
+          spent = omega (arith, still .0);
+          line = still .1;
+          put = put-behind r q at put;
+        }
 
-  pub line-steps : (q : Progress) (p₀ p₁ : List ℕ) (n₀ n₁ : List Float)
-      → Moved text (take (decimalCount kind) values) (take (bitsCount kind) (drop (decimalCount kind) values)) (drop at text) 1 r q p₀ p₁ n₀ n₁
-      → stepped text r p₀ p₁ n₀ n₁ (Next q) (readLine kind (drop (r .at) text))
-  unfolding stepped
-  line-steps q p₀ p₁ n₀ n₁ m = rw line-read m
+    pub line-valued : valued kind text values r (Next q)
+    unfolding valued
+    line-valued = rw (still .0) l
+
+-- behind a step that went on there is a line
+pub valued-next : (kind : LineKind) (text values : List ℕ) (r q : Progress) (step : Step) → valued kind text values r step → step ≡ Next q → LineAt kind text values r (q .at)
+unfolding valued
+valued-next kind text values r q step v e = subst (λ (s : Step). valued kind text values r s) e v

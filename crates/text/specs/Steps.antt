@@ -1,12 +1,13 @@
 -- What the reader's functions say of a text: of a row of lines. Definitions only.
-use Prim.Native.Nat.{ℕ, _+_, _*_, _≤_}
+use Prim.Native.Nat.{ℕ, _+_, _*_, _≤_, _<_, _^_}
 use mathlib.Core.Path.{_≡_}
 use mathlib.Core.List.{List}
-use lib.ListN.{length, take, drop}
+use lib.ListN.{length, getD, take, drop}
 use lib.Seq.{sets}
 use lib.Ieee.{Float}
 use Rattle.model.specs.declared.LineKind.{LineKind}
-use Rattle.model.specs.Text.{fieldCount, line, lineIn, Reading, bad, got, floatsOf}
+use Rattle.model.specs.Text.{fieldCount, formOf, line, lineIn, Reading, bad, got, floatsOf}
+use Rattle.model.specs.Laws.Text.{Bounded}
 use Rattle.text.specs.declared.put.Progress.{Progress}
 use Rattle.text.specs.declared.put.Step.{Step}
 use Rattle.text.specs.declared.put.Step.the-variants as step
@@ -22,16 +23,49 @@ pub record LineAt (kind : LineKind) (text values : List ℕ) (r : Progress) (end
   pub reading : lineIn kind (drop (r .at) text) ≡ line (take (fieldCount kind) values) (drop end text)
   pub inside : end ≤ length text
 
+-- behind a line, with nothing put yet; with one more word; with one more number
+abbrev pub behindLine : Progress → ℕ → Progress
+behindLine r at = record { at = at; line = r .line + 1; words = r .words; numbers = r .numbers }
+
+abbrev pub withWord : Progress → Progress
+withWord r = record { at = r .at; line = r .line; words = r .words + 1; numbers = r .numbers }
+
+abbrev pub withNumber : Progress → Progress
+withNumber r = record { at = r .at; line = r .line; words = r .words; numbers = r .numbers + 1 }
+
+-- so many values can be counted
+pub record Room (values : ℕ) (r : Progress) : Type 0 where
+  pub words : r .words + values < 2 ^ 64
+  pub numbers : r .numbers + values < 2 ^ 64
+
+-- a line's values stand in an array, each as its form bounds it
+pub record LineValues (kind : LineKind) (values : List ℕ) : Type 0 where
+  pub count : fieldCount kind ≤ length values
+  pub bounded : (k : ℕ) → k < fieldCount kind → Bounded (formOf kind k) (getD values k 0)
+
 -- From r to q: the words and the floats of the bits stand in the slices from r's counts on
+pub record Put (ws bs : List ℕ) (r q : Progress) (planOld planNew : List ℕ) (numbersOld numbersNew : List Float) : Type 0 where
+  pub words : q .words ≡ r .words + length ws
+  pub numbers : q .numbers ≡ r .numbers + length bs
+  pub plan : planNew ≡ sets planOld (r .words) ws
+  pub floats : numbersNew ≡ sets numbersOld (r .numbers) (floatsOf bs)
+
+-- r and q are at the same place
+abbrev pub Stays : Progress → Progress → Type 0
+Stays r q = (q .at ≡ r .at) × (q .line ≡ r .line)
+
+-- From r to q: lines of the text are read, and put
 pub record Moved (text ws bs rest : List ℕ) (lines : ℕ) (r q : Progress) (planOld planNew : List ℕ) (numbersOld numbersNew : List Float) : Type 0 where
   pub left : rest ≡ drop (q .at) text
   pub inside : q .at ≤ length text
   pub spent : r .at + 3 * lines + 2 * length ws + 9 * length bs ≤ q .at
   pub line : q .line ≡ r .line + lines
-  pub words : q .words ≡ r .words + length ws
-  pub numbers : q .numbers ≡ r .numbers + length bs
-  pub plan : planNew ≡ sets planOld (r .words) ws
-  pub floats : numbersNew ≡ sets numbersOld (r .numbers) (floatsOf bs)
+  pub put : Put ws bs r q planOld planNew numbersOld numbersNew
+
+-- behind a line that was read, its values
+unfoldable pub valued : LineKind → List ℕ → List ℕ → Progress → Step → Type 0
+valued kind text values r (step.Next q) = LineAt kind text values r (q .at)
+valued kind text values r (step.Malformed m) = Unit {0}
 
 -- what a step makes of a reading. After a bad line the slices are not spoken of
 unfoldable pub stepped : List ℕ → Progress → List ℕ → List ℕ → List Float → List Float → Step → Reading → Type 0

@@ -1,18 +1,22 @@
 // The lines of a figure in their order, and the call.
 use crate::put::Progress;
 use crate::put::Step;
-use crate::put::put_line;
+use crate::put::behind;
 use crate::put::put_word;
+use crate::put::read_line;
 use crate::put::read_lines;
 use layout::CLIP_COUNT_AT;
 use layout::JOINT_COUNT_AT;
 use layout::STATE_COUNT_AT;
 use lines::LineEnd;
+use lines::MAX_FIELDS;
 use lines::line_at;
 use model::LineKind;
+use model::Refusal;
 use model::TextAnswer;
-ghost use Prim.Native.Nat.{_<_, _≤_};
+ghost use Prim.Native.Nat.{_≤_};
 ghost use lib.ListN.{drop};
+ghost use Rattle.model.specs.Plan.{maxJoints, maxClips};
 ghost use Rattle.model.specs.Promises.{TextRead};
 ghost use Rattle.model.specs.Text.{readLine, readState, times, readEnd, readFigure};
 ghost use Rattle.model.specs.declared.LineKind.the-variants as LineKind;
@@ -26,7 +30,7 @@ fn read_state(text: &[u8], from: Progress, plan: &mut [u16], numbers: &mut [f32]
     requires { ⌜ InText (now text) from ⌝ }
     ensures { λ r. ⌜ stepped (now (text .entry)) from (now (plan .entry)) (now (plan .exit)) (now (numbers .entry)) (now (numbers .exit)) r (readState (drop (from .at) (now (text .entry)))) ⌝ }
 {
-    let mut values = [0usize; 8];
+    let mut values = [0usize; MAX_FIELDS];
     let found = line_at(text, from.at, LineKind::State, &mut values);
     let LineEnd::At(end) = found else {
         return Step::Malformed {
@@ -35,24 +39,12 @@ fn read_state(text: &[u8], from: Progress, plan: &mut [u16], numbers: &mut [f32]
     };
     let nodes = values[0];
     let transitions = values[1];
-    put_word(plan, from.words, nodes);
-    let first_node = Progress {
-        at: end,
-        line: from.line + 1,
-        words: from.words + 1,
-        numbers: from.numbers,
-    };
+    let first_node = put_word(plan, behind(from, end), nodes);
     let nodes_read = read_lines(text, LineKind::Node, nodes, first_node, plan, numbers);
     let Step::Next(after) = nodes_read else {
         return nodes_read;
     };
-    put_word(plan, after.words, transitions);
-    let first_go = Progress {
-        at: after.at,
-        line: after.line,
-        words: after.words + 1,
-        numbers: after.numbers,
-    };
+    let first_go = put_word(plan, after, transitions);
     read_lines(text, LineKind::Go, transitions, first_go, plan, numbers)
 }
 
@@ -94,22 +86,19 @@ fn read_clips(
     plan: &mut [u16],
     numbers: &mut [f32],
 ) -> Clips
-    requires { ⌜ InText (now text) from × (count ≤ 16) ⌝ }
+    requires { ⌜ InText (now text) from × (count ≤ maxClips) ⌝ }
     ensures { λ r. ⌜ stepped (now (text .entry)) from (now (plan .entry)) (now (plan .exit)) (now (numbers .entry)) (now (numbers .exit)) (r .step) (times count (readLine LineKind.Clip) (drop (from .at) (now (text .entry)))) × sampled count (r .samples) (times count (readLine LineKind.Clip) (drop (from .at) (now (text .entry)))) ⌝ }
 {
+    let mut values = [0usize; MAX_FIELDS];
     let mut progress = from;
     let mut samples = 0;
     let mut c = 0;
     while c < count {
-        let mut values = [0usize; 8];
-        let found = line_at(text, progress.at, LineKind::Clip, &mut values);
-        let LineEnd::At(end) = found else {
-            let step = Step::Malformed {
-                line: progress.line + 1,
-            };
+        let step = read_line(text, LineKind::Clip, progress, &mut values, plan, numbers);
+        let Step::Next(next) = step else {
             return Clips { step, samples: 0 };
         };
-        progress = put_line(text, LineKind::Clip, &values, end, progress, plan, numbers);
+        progress = next;
         samples += values[0];
         c += 1;
     }
@@ -150,55 +139,68 @@ fn read_poses(
     read_end(text, behind)
 }
 
-// Clips, states and poses, for the header's counts.
-fn read_motion(
-    text: &[u8],
+// Of the header.
+struct Counts {
     joints: usize,
     clips: usize,
     states: usize,
+}
+
+// Clips, states and poses.
+fn read_motion(
+    text: &[u8],
+    counts: Counts,
     from: Progress,
     plan: &mut [u16],
     numbers: &mut [f32],
 ) -> Step
-    requires { ⌜ InText (now text) from × (joints ≤ 64) × (clips ≤ 16) ⌝ }
-    ensures { λ r. ⌜ stepped (now (text .entry)) from (now (plan .entry)) (now (plan .exit)) (now (numbers .entry)) (now (numbers .exit)) r (readMotion joints clips states (drop (from .at) (now (text .entry)))) ⌝ }
+    requires { ⌜ InText (now text) from × (counts .joints ≤ maxJoints) × (counts .clips ≤ maxClips) ⌝ }
+    ensures { λ r. ⌜ stepped (now (text .entry)) from (now (plan .entry)) (now (plan .exit)) (now (numbers .entry)) (now (numbers .exit)) r (readMotion (counts .joints) (counts .clips) (counts .states) (drop (from .at) (now (text .entry)))) ⌝ }
 {
-    let clips_read = read_clips(text, clips, from, plan, numbers);
+    let clips_read = read_clips(text, counts.clips, from, plan, numbers);
     let clips_step = clips_read.step;
     let Step::Next(behind_clips) = clips_step else {
         return clips_step;
     };
-    let states_step = read_states(text, states, behind_clips, plan, numbers);
+    let states_step = read_states(text, counts.states, behind_clips, plan, numbers);
     let Step::Next(behind_states) = states_step else {
         return states_step;
     };
-    let poses = clips_read.samples * joints;
+    let poses = clips_read.samples * counts.joints;
     read_poses(text, poses, behind_states, plan, numbers)
 }
 
 fn read_figure(text: &[u8], plan: &mut [u16], numbers: &mut [f32]) -> Step
     ensures { λ r. ⌜ stepped (now (text .entry)) begin (now (plan .entry)) (now (plan .exit)) (now (numbers .entry)) (now (numbers .exit)) r (readFigure (now (text .entry))) ⌝ }
 {
-    let mut values = [0usize; 8];
-    let found = line_at(text, 0, LineKind::Figure, &mut values);
-    let LineEnd::At(end) = found else {
-        return Step::Malformed { line: 1 };
-    };
     let begin = Progress {
         at: 0,
         line: 0,
         words: 0,
         numbers: 0,
     };
-    let header = put_line(text, LineKind::Figure, &values, end, begin, plan, numbers);
-    let joints = values[JOINT_COUNT_AT];
-    let clips = values[CLIP_COUNT_AT];
-    let states = values[STATE_COUNT_AT];
-    let joints_step = read_lines(text, LineKind::Joint, joints, header, plan, numbers);
+    let mut values = [0usize; MAX_FIELDS];
+    let header = read_line(text, LineKind::Figure, begin, &mut values, plan, numbers);
+    let Step::Next(behind_header) = header else {
+        return header;
+    };
+    let counts = Counts {
+        joints: values[JOINT_COUNT_AT],
+        clips: values[CLIP_COUNT_AT],
+        states: values[STATE_COUNT_AT],
+    };
+    let joints_step = read_lines(
+        text,
+        LineKind::Joint,
+        counts.joints,
+        behind_header,
+        plan,
+        numbers,
+    );
     let Step::Next(behind_joints) = joints_step else {
         return joints_step;
     };
-    read_motion(text, joints, clips, states, behind_joints, plan, numbers)
+    read_motion(text, counts, behind_joints, plan, numbers)
 }
 
 // A text that passed, where there is room for it.
@@ -212,23 +214,19 @@ fn write_figure(
     requires { ⌜ Judged words count (readFigure (now text)) ⌝ }
     ensures { λ r. ⌜ TextRead (now (text .entry)) (now (plan .entry)) (now (plan .exit)) (now (numbers .entry)) (now (numbers .exit)) r ⌝ }
 {
-    if plan.len() < words {
-        return TextAnswer::Refused {
-            number: 12,
-            place: 0,
-        };
+    if words <= plan.len() {
+        if count <= numbers.len() {
+            read_figure(text, plan, numbers);
+            return TextAnswer::Accepted {
+                words,
+                numbers: count,
+            };
+        }
     }
-    if numbers.len() < count {
-        return TextAnswer::Refused {
-            number: 12,
-            place: 0,
-        };
-    }
-    read_figure(text, plan, numbers);
-    TextAnswer::Accepted {
-        words,
-        numbers: count,
-    }
+    TextAnswer::Refused(Refusal {
+        number: 12,
+        place: 0,
+    })
 }
 
 // The figure of a text, in the front of both slices; what follows there is kept. Refused, both keep their contents.
@@ -237,10 +235,10 @@ pub fn read(text: &[u8], plan: &mut [u16], numbers: &mut [f32]) -> TextAnswer
 {
     let judged = read_figure(text, &mut plan[..0], &mut numbers[..0]);
     match judged {
-        Step::Malformed { line } => TextAnswer::Refused {
+        Step::Malformed { line } => TextAnswer::Refused(Refusal {
             number: 11,
             place: line,
-        },
+        }),
         Step::Next(whole) => write_figure(text, whole.words, whole.numbers, plan, numbers),
     }
 }

@@ -1,17 +1,21 @@
 // One line, or many of a kind, into the slices. A place past a slice's end is not written, so that slices of no length serve to judge a text.
 use float::f32_from_bits;
 use lines::LineEnd;
-use lines::bits_count;
-use lines::decimal_count;
+use lines::MAX_FIELDS;
+use lines::field_count;
+use lines::field_form;
 use lines::line_at;
+use model::FieldForm;
 use model::LineKind;
 ghost use mathlib.Core.Path.{_≡_};
 ghost use mathlib.Core.List.{[], _∷_};
-ghost use Prim.Native.Nat.{ℕ, _+_, _<_, _≤_, _^_};
-ghost use lib.ListN.{length, getD, take, drop};
+ghost use Prim.Native.Nat.{_+_, _<_, _≤_, _^_};
+ghost use lib.ListN.{drop};
 ghost use lib.Seq.{sets};
-ghost use Rattle.model.specs.Text.{decimalCount, bitsCount, readLine, times, floatsOf};
-ghost use Rattle.text.specs.Steps.{InText, LineAt, Moved, stepped};
+ghost use Rattle.model.specs.Text.{maxWord, forms, wordsIn, bitsIn, readLine, times, floatsOf};
+ghost use Rattle.model.specs.Laws.Text.{Bounded};
+ghost use Rattle.lines.specs.Reading.{maxFields};
+ghost use Rattle.text.specs.Steps.{InText, withWord, withNumber, behindLine, Room, Put, Stays, LineValues, valued, stepped};
 
 // The place in the text, and how many lines, words and numbers stand before it.
 pub struct Progress {
@@ -26,89 +30,113 @@ pub enum Step {
     Malformed { line: usize },
 }
 
-pub fn put_word(plan: &mut [u16], at: usize, value: usize)
-    requires { ⌜ value < 65536 ⌝ }
-    ensures { λ _. ⌜ now (plan .exit) ≡ sets (now (plan .entry)) at (value ∷ []) ⌝ }
+// ---- values, each behind those that were put before
+
+pub fn put_word(plan: &mut [u16], from: Progress, value: usize) -> Progress
+    requires { ⌜ (value ≤ maxWord) × (from .words + 1 < 2 ^ 64) ⌝ }
+    ensures { λ r. ⌜ (r ≡ withWord from) × (now (plan .exit) ≡ sets (now (plan .entry)) (from .words) (value ∷ [])) ⌝ }
 {
+    let at = from.words;
     if at < plan.len() {
         plan[at] = value as u16;
     }
+    Progress {
+        at: from.at,
+        line: from.line,
+        words: at + 1,
+        numbers: from.numbers,
+    }
 }
 
-fn put_number(numbers: &mut [f32], at: usize, bits: usize)
-    requires { ⌜ bits < 2 ^ 32 ⌝ }
-    ensures { λ _. ⌜ now (numbers .exit) ≡ sets (now (numbers .entry)) at (floatsOf (bits ∷ [])) ⌝ }
+fn put_number(numbers: &mut [f32], from: Progress, bits: usize) -> Progress
+    requires { ⌜ (bits < 2 ^ 32) × (from .numbers + 1 < 2 ^ 64) ⌝ }
+    ensures { λ r. ⌜ (r ≡ withNumber from) × (now (numbers .exit) ≡ sets (now (numbers .entry)) (from .numbers) (floatsOf (bits ∷ []))) ⌝ }
 {
+    let at = from.numbers;
     if at < numbers.len() {
         numbers[at] = f32_from_bits(bits as u32);
     }
-}
-
-fn put_words(plan: &mut [u16], at: usize, values: &[usize; 8], count: usize)
-    requires { ⌜ (count ≤ 8) × (count ≤ length (now values)) × (at + 8 < 2 ^ 64) × ((k : ℕ) → k < count → getD (now values) k 0 < 65536) ⌝ }
-    ensures { λ _. ⌜ now (plan .exit) ≡ sets (now (plan .entry)) at (take count (now (values .entry))) ⌝ }
-{
-    let mut k = 0;
-    while k < count {
-        put_word(plan, at + k, values[k]);
-        k += 1;
+    Progress {
+        at: from.at,
+        line: from.line,
+        words: from.words,
+        numbers: at + 1,
     }
 }
 
-fn put_numbers(numbers: &mut [f32], at: usize, values: &[usize; 8], from: usize, count: usize)
-    requires { ⌜ (from + count ≤ 8) × (from + count ≤ length (now values)) × (at + 8 < 2 ^ 64) × ((k : ℕ) → k < count → getD (now values) (from + k) 0 < 2 ^ 32) ⌝ }
-    ensures { λ _. ⌜ now (numbers .exit) ≡ sets (now (numbers .entry)) at (floatsOf (take count (drop from (now (values .entry))))) ⌝ }
-{
-    let mut k = 0;
-    while k < count {
-        put_number(numbers, at + k, values[from + k]);
-        k += 1;
-    }
-}
-
-// What a line says, put behind what was read before; `end` is the place behind the line.
-pub fn put_line(
-    text: &[u8],
-    kind: LineKind,
-    values: &[usize; 8],
-    end: usize,
+// A decimal goes to the plan, bits go to the numbers.
+fn put_value(
+    form: FieldForm,
+    value: usize,
     from: Progress,
     plan: &mut [u16],
     numbers: &mut [f32],
 ) -> Progress
-    requires { ⌜ LineAt kind (now text) (now values) from end ⌝ }
-    ensures { λ r. ⌜ Moved (now (text .entry)) (take (decimalCount kind) (now (values .entry))) (take (bitsCount kind) (drop (decimalCount kind) (now (values .entry)))) (drop end (now (text .entry))) 1 from r (now (plan .entry)) (now (plan .exit)) (now (numbers .entry)) (now (numbers .exit)) ⌝ }
+    requires { ⌜ Bounded form value × Room 1 from ⌝ }
+    ensures { λ r. ⌜ Put (wordsIn (form ∷ []) (value ∷ [])) (bitsIn (form ∷ []) (value ∷ [])) from r (now (plan .entry)) (now (plan .exit)) (now (numbers .entry)) (now (numbers .exit)) × Stays from r ⌝ }
 {
-    let words = decimal_count(kind);
-    let floats = bits_count(kind);
-    put_words(plan, from.words, values, words);
-    put_numbers(numbers, from.numbers, values, words, floats);
-    Progress {
-        at: end,
-        line: from.line + 1,
-        words: from.words + words,
-        numbers: from.numbers + floats,
+    match form {
+        FieldForm::Decimal { limit } => put_word(plan, from, value),
+        FieldForm::Bits => put_number(numbers, from, value),
     }
 }
 
-fn read_line(
+// A line's values, field by field.
+fn put_line(
+    kind: LineKind,
+    values: &[usize; MAX_FIELDS],
+    from: Progress,
+    plan: &mut [u16],
+    numbers: &mut [f32],
+) -> Progress
+    requires { ⌜ LineValues kind (now values) × Room maxFields from ⌝ }
+    ensures { λ r. ⌜ Put (wordsIn (forms kind) (now (values .entry))) (bitsIn (forms kind) (now (values .entry))) from r (now (plan .entry)) (now (plan .exit)) (now (numbers .entry)) (now (numbers .exit)) × Stays from r ⌝ }
+{
+    let count = field_count(kind);
+    let mut progress = from;
+    let mut k = 0;
+    while k < count {
+        progress = put_value(field_form(kind, k), values[k], progress, plan, numbers);
+        k += 1;
+    }
+    progress
+}
+
+// ---- lines
+
+// Behind a line that ends at `end`, with nothing put yet.
+pub fn behind(from: Progress, end: usize) -> Progress
+    requires { ⌜ from .line + 1 < 2 ^ 64 ⌝ }
+    ensures { λ r. ⌜ r ≡ behindLine from end ⌝ }
+{
+    Progress {
+        at: end,
+        line: from.line + 1,
+        words: from.words,
+        numbers: from.numbers,
+    }
+}
+
+// One line; its values stay in `values`.
+pub fn read_line(
     text: &[u8],
     kind: LineKind,
     from: Progress,
+    values: &mut [usize; MAX_FIELDS],
     plan: &mut [u16],
     numbers: &mut [f32],
 ) -> Step
     requires { ⌜ InText (now text) from ⌝ }
     ensures { λ r. ⌜ stepped (now (text .entry)) from (now (plan .entry)) (now (plan .exit)) (now (numbers .entry)) (now (numbers .exit)) r (readLine kind (drop (from .at) (now (text .entry)))) ⌝ }
+    ensures { λ r. ⌜ valued kind (now (text .entry)) (now (values .exit)) from r ⌝ }
 {
-    let mut values = [0usize; 8];
-    let found = line_at(text, from.at, kind, &mut values);
+    let found = line_at(text, from.at, kind, values);
     let LineEnd::At(end) = found else {
         return Step::Malformed {
             line: from.line + 1,
         };
     };
-    Step::Next(put_line(text, kind, &values, end, from, plan, numbers))
+    Step::Next(put_line(kind, values, behind(from, end), plan, numbers))
 }
 
 // `count` lines of one kind.
@@ -123,10 +151,11 @@ pub fn read_lines(
     requires { ⌜ InText (now text) from ⌝ }
     ensures { λ r. ⌜ stepped (now (text .entry)) from (now (plan .entry)) (now (plan .exit)) (now (numbers .entry)) (now (numbers .exit)) r (times count (readLine kind) (drop (from .at) (now (text .entry)))) ⌝ }
 {
+    let mut values = [0usize; MAX_FIELDS];
     let mut progress = from;
     let mut i = 0;
     while i < count {
-        let step = read_line(text, kind, progress, plan, numbers);
+        let step = read_line(text, kind, progress, &mut values, plan, numbers);
         let Step::Next(next) = step else {
             return step;
         };

@@ -29,7 +29,7 @@ returns-2 c =
 
 mul-poses : tie.Need-mul-poses
 mul-poses c =
-    let k = c .before .before .before .before .before .before .before .before .before .before .before in
+    let k = c .before .before .before .before .before .before .before .before .before .before .before .before in
     let p = k .before .before .before .before .before .before .before in
     let pre = p .before .before .before .before .before .before .pre in
     let sum = sampled-sum _ _ _ _ _ _ _ _ _ _ _ (k .before .clips-step .given .1) (p .read-clips .ensures .0) (p .read-clips .ensures .1) in
@@ -37,14 +37,14 @@ mul-poses c =
 
 read-poses-requires : tie.Need-read-poses-requires
 read-poses-requires c κs =
-    let k = c .before .before .before in
+    let k = c .before .before .before .before in
     let s = k .before .before .before .before .before .before .before in
     arrives _ _ _ _ _ _ _ _ (s .read-states .ensures) _ (here (s .before .before .before)) (k .before .states-step .given .1)
 
 returns-3 : tie.Need-returns-3
 returns-3 c =
     let o = c .before .before .before .before in
-    let k = o .before .before .before .before in
+    let k = o .before .before .before .before .before in
     let s = k .before .before .before .before .before .before .before in
     let h = s .before .before .before in
     let p = h .before .before .before .before .before .before .before in

@@ -1,11 +1,11 @@
 -- `text::figure::read_state` meets its contract. Assumes nothing.
 use borrow.Author.Needs.{needs}
 use Rattle.model.specs.declared.LineKind.the-variants.{State}
-use Rattle.model.specs.Text.{limits}
-use Rattle.text.specs.Steps.{InText, LineAt}
+use Rattle.text.specs.Steps.{InText, withWord, LineAt}
 use native.Mathlib.Omega.{arith}
-use Rattle.text.proofs.LineLaws.{line-at, word-small}
-use Rattle.text.proofs.FigureLaws.{behind, first-here, nodes-stop, behind-here, state-steps, state-stops}
+use mathlib.Core.Path.{_≡_, ap, _∙_}
+use Rattle.text.proofs.LineLaws.{line-at, line-room}
+use Rattle.text.proofs.FigureLaws.{first, first-here, counts-small, nodes-stop, behind-here, state-steps, state-stops}
 use Rattle.text.proofs.figure.read_state.Statement.{statement}
 use Rattle.text.proofs.figure.read_state.Tie as tie
 
@@ -23,43 +23,49 @@ returns c =
     state-stops _ (l .line-at .last .1 .1 .1 .0) _ _ (l .line-at .ensures) _ _ _ _ (c .before .before .match .keys2)
 
 put-word-requires : tie.Need-put-word-requires
-unfolding limits
-put-word-requires c κs = word-small (known (c .before)) 0 (omega arith)
+put-word-requires c κs =
+    let l = known (c .before .before) in
+    (counts-small l .0, rw (c .behind .ensures) (omega (arith, line-room l (search needs))))
+
+-- the count of nodes is put
+begun : (c : tie.After-put-word) → c .put-word .result ≡ first (known (c .before .before .before))
+begun c = c .put-word .ensures .0 ∙ ap withWord (c .before .behind .ensures)
 
 read-lines-requires : tie.Need-read-lines-requires
-read-lines-requires c κs = first-here (known (c .before .before .before .before .before .before .before .before))
+read-lines-requires c κs = let p = c .before .before .before .before in rw (begun p) (first-here (known (p .before .before .before)))
 
 returns-2 : tie.Need-returns-2
 returns-2 c =
     let n = c .before .before .before .before .before .before in
-    let k = n .before .before .before .before .before .before .before in
-    nodes-stop (known (k .before .before)) _ _ _ _ _ (n .read-lines .ensures) _ (k .put-word .ensures) (c .before .match2 .keys2)
+    let p = n .before .before .before .before .before in
+    let b = p .before in
+    nodes-stop (known (b .before .before)) _ (begun p) _ _ _ _ _ (n .read-lines .ensures) _ (b .behind .ensures) _ (p .put-word .ensures .1) (c .before .match2 .keys2)
 
--- past the second `else`, back to the first; there is room for T in the count of words
-abbrev line : tie.After-known-told2 → tie.After-known-told
-line c = c .before .before .before .before .before .before .before .before .before .before .before .before .before .before .before .before
+-- past the second `else`, back to the first count; there is room for T in the count of words
+abbrev put : tie.After-known-told2 → tie.After-put-word
+put c = c .before .before .before .before .before .before .before .before .before .before .before .before
 
-room : (c : tie.After-known-told2) → InText (line c .before .before .before .before .before .before .before .before .args .text .now) (behind (known (line c)) (c .before .nodes-read .given .0 .0))
-room c = behind-here (known (line c)) _ _ _ _ _ (c .before .before .before .before .before .before .before .read-lines .ensures) _ (c .before .nodes-read .given .1)
+room : (c : tie.After-known-told2) → InText (put c .before .before .before .before .before .before .before .before .before .before .before .args .text .now) (withWord (c .before .nodes-read .given .0 .0))
+room c =
+    let n = c .before .before .before .before .before .before .before in
+    behind-here (known (put c .before .before .before)) _ (begun (put c)) _ _ _ _ _ (n .read-lines .ensures) _ (c .before .nodes-read .given .1)
 
 put-word-requires-2 : tie.Need-put-word-requires-2
-unfolding limits
-put-word-requires-2 c κs = word-small (known (line (c .before))) 1 (omega arith)
-
-add-t25-2 : tie.Need-add-t25-2
-add-t25-2 c = omega (arith, room (c .before .before .before .before .before))
+put-word-requires-2 c κs = (counts-small (known (put (c .before) .before .before .before)) .1, omega (arith, room (c .before)))
 
 read-lines-requires-2 : tie.Need-read-lines-requires-2
-read-lines-requires-2 c κs = room (c .before .before .before .before .before .before .before)
+read-lines-requires-2 c κs = let t = c .before .before .before .before in rw (t .put-word2 .ensures .0) (room (t .before .before))
 
 returns-3 : tie.Need-returns-3
 returns-3 c =
     let g = c .before .before .before .before in
-    let t = g .before .before .before .before .before .before in
+    let t = g .before .before .before .before .before in
     let q = t .before .before in
     let n = q .before .before .before .before .before .before .before in
-    state-steps (known (line q)) _ _ _ _ _ (n .read-lines .ensures) _ (n .before .before .before .before .before .before .before .put-word .ensures) _ _ _ _ _ (q .before .nodes-read .given .1)
-    (t .put-word2 .ensures) (g .read-lines2 .ensures)
+    let p = put q in
+    let b = p .before in
+    state-steps (known (b .before .before)) _ (begun p) _ _ _ _ _ (n .read-lines .ensures) _ (b .behind .ensures) _ (p .put-word .ensures .1) _ _ _ _ _ _ (q .before .nodes-read .given .1)
+    (t .put-word2 .ensures .0) (t .put-word2 .ensures .1) (g .read-lines2 .ensures)
 
 pub read-state-spec : {M : Type 1} → statement M
 read-state-spec =
@@ -72,9 +78,8 @@ read-state-spec =
     returns
     (search needs)
     (search needs)
+    (search needs)
     put-word-requires
-    (search needs)
-    (search needs)
     read-lines-requires
     (search needs)
     (search needs)
@@ -82,7 +87,6 @@ read-state-spec =
     (search needs)
     returns-2
     put-word-requires-2
-    add-t25-2
     read-lines-requires-2
     (search needs)
     (search needs)

@@ -1,57 +1,54 @@
--- `text::put::put_line` meets its contract. Assumes nothing.
+-- `text::put::put_line` meets its contract. Invariant: the first k values are put. Assumes nothing.
 use borrow.Author.Needs.{needs}
+use Prim.Native.Nat.{_-_, _≤_}
+use mathlib.Core.Path.{ap, _∙_}
+use lib.ListN.{length}
+use lib.Seq.{length-sets}
 use native.Mathlib.Omega.{arith}
-use Rattle.text.proofs.LineLaws.{field-count, word-small, bits-small, line-bytes, line-moved}
+use Rattle.model.specs.Text.{fieldCount}
+use Rattle.lines.specs.Reading.{maxFields}
+use Rattle.lines.proofs.Laws.{fields-few}
+use Rattle.text.proofs.LineLaws.{FirstPut, none-put, room-left, next-put, all-put}
 use Rattle.text.proofs.put.put_line.Statement.{statement}
 use Rattle.text.proofs.put.put_line.Tie as tie
 
-put-words-requires : tie.Need-put-words-requires
-put-words-requires c κs =
-    let d = c .before .before in
-    let l = d .before .before .before .before .pre in
-    let n = field-count l in
-    let e = d .decimal-count .ensures in
-    (omega arith, omega arith, omega arith, λ k h. word-small l k (omega arith))
+abbrev Inv-loop : tie.InvT-loop
+Inv-loop kind values plan₀ numbers₀ count progress₀ k₀ plan numbers progress k = FirstPut kind values progress₀ plan₀ numbers₀ progress plan numbers k
 
-put-numbers-requires : tie.Need-put-numbers-requires
-put-numbers-requires c κs =
-    let b = c .before .before .before .before .before in
-    let d = b .before in
-    let l = d .before .before .before .before .pre in
-    let n = field-count l in
-    let e = d .decimal-count .ensures in
-    let f = b .bits-count .ensures in
-    (omega arith, omega arith, omega arith, λ k h. rw e (bits-small l k (omega arith)))
+abbrev μ-loop : tie.MeasureT-loop
+μ-loop kind values plan₀ numbers₀ count progress₀ k₀ plan numbers progress k = count - k
 
-add-t16 : tie.Need-add-t16
-add-t16 c =
-    let d = c .before .before .before .before .before .before .before .before .before .before .before in
-    omega (arith, d .decimal-count .ensures, line-bytes (d .before .before .before .before .pre))
+few : (c : tie.After-field-form Inv-loop μ-loop) → fieldCount (c .before .before .before .before .before .before .args .kind) ≤ maxFields
+few c = fields-few _
 
-add-t17 : tie.Need-add-t17
-add-t17 c =
-    let b = c .before .before .before .before .before .before .before .before .before .before .before in
-    omega (arith, b .bits-count .ensures, line-bytes (b .before .before .before .before .before .pre))
+put-value-requires : tie.Need-put-value-requires Inv-loop μ-loop
+put-value-requires c κs =
+    let f = c .before .before .before in
+    let l = f .before .before in
+    let pre = l .before .before .before .before .pre in
+    (rw (f .field-form .ensures) (pre .0 .bounded _ (omega arith)), room-left (l .loop .inv) (omega arith) (pre .1))
 
-returns : tie.Need-returns
-returns c =
-    let n = c .before .before .before .before .before in
-    let w = n .before .before .before .before in
-    let b = w .before .before in
-    let d = b .before in
-    line-moved (d .before .before .before .before .pre) _ _ _ _ _ _ (d .decimal-count .ensures) (b .bits-count .ensures) (w .put-words .ensures) (n .put-numbers .ensures)
+loop-again : tie.Need-loop-again Inv-loop μ-loop
+loop-again c =
+    let p = c .before .before .before .before in
+    let f = p .before .before .before .before in
+    next-put (f .before .before .loop .inv) (omega arith) (f .field-form .ensures) _ _ _ (p .put-value .ensures .0) (p .put-value .ensures .1)
 
 pub put-line-spec : {M : Type 1} → statement M
 put-line-spec =
     tie.close
     (tie.spec
+    Inv-loop
+    μ-loop
     (search needs)
+    (λ c. none-put)
     (search needs)
-    put-words-requires
-    put-numbers-requires
-    (search needs)
-    add-t16
-    add-t17
-    (search needs)
-    (search needs)
-    returns)
+    (λ c. omega (arith, few c))
+    (λ c. omega (arith, few c))
+    put-value-requires
+    (λ c. omega arith)
+    (λ c. omega arith)
+    loop-again
+    (λ c. ap length (c .before .loop .inv .put .plan) ∙ simp length-sets)
+    (λ c. ap length (c .before .loop .inv .put .floats) ∙ simp length-sets)
+    (λ c. (all-put (c .before .loop .inv) (omega arith), c .before .loop .inv .stays)))

@@ -6,10 +6,10 @@ use Rattle.text.proofs.put.read_lines.Statement.{statement}
 use Rattle.text.proofs.put.read_lines.Tie as tie
 
 abbrev Inv-loop : tie.InvT-loop
-Inv-loop text kind count plan₀ numbers₀ progress₀ i₀ plan numbers progress i = Through text (readLine kind) count progress₀ plan₀ numbers₀ progress plan numbers i
+Inv-loop text kind count plan₀ numbers₀ values₀ progress₀ i₀ plan numbers values progress i = Through text (readLine kind) count progress₀ plan₀ numbers₀ progress plan numbers i
 
 abbrev μ-loop : tie.MeasureT-loop
-μ-loop text kind count plan₀ numbers₀ progress₀ i₀ plan numbers progress i = count - i
+μ-loop text kind count plan₀ numbers₀ values₀ progress₀ i₀ plan numbers values progress i = count - i
 
 pub read-lines-spec : {M : Type 1} → statement M
 read-lines-spec =
