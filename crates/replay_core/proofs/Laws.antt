@@ -1,5 +1,5 @@
 -- One call: what a frame leaves to be shown, and what is put for a call. Assumes nothing.
-use Prim.Native.Nat.{ℕ, _+_, _*_, _≤_}
+use Prim.Native.Nat.{ℕ, _+_, _≤_}
 use native.Mathlib.Omega.{arith}
 use mathlib.Core.Path.{_≡_, refl, sym, ap, _∙_}
 use mathlib.Core.Logic.{_⊎_, inl, inr}
@@ -9,24 +9,26 @@ use lib.ListN.{length, getD, take, drop, length-append}
 use lib.Seq.{sets-eq, length-take-le, take-append-seam}
 use lib.Ieee.{Float}
 use borrow.Author.Tests.{le-leb}
+use Rattle.model.specs.declared.FrameKind.{FrameKind}
 use Rattle.model.specs.declared.Player.{Player}
+use Rattle.model.specs.declared.Refusal.{Refusal}
 use Rattle.model.specs.declared.Outcome.{Outcome}
 use Rattle.model.specs.declared.Answer.{Answer}
 use Rattle.model.specs.declared.Answer.the-variants.{Accepted, Refused}
 use Rattle.model.specs.declared.Matrix4.{Matrix4}
 use Rattle.model.specs.Rotations.{identityMatrix, floats}
 use Rattle.model.specs.Answers.{Verdict, accepted, refused, values, _then_, require, unlessRefused}
-use Rattle.model.specs.Plan.{jointCountAt, word, jointCount, outputAt}
+use Rattle.model.specs.Plan.{maxJoints, maxOutput, jointCountAt, word, jointCount, outputAt}
 use Rattle.model.specs.Check.{check}
 use Rattle.model.specs.Controller.{frameVerdict}
 use Rattle.model.specs.Skeleton.{flat, written}
 use Rattle.model.specs.Program.{jointLine, joined}
-use Rattle.model.specs.Run.{FrameKind, frameMatrices, Call, Frame, callVerdict, changed, after, chosenFloats, observation}
+use Rattle.model.specs.Run.{frameMatrices, Call, Frame, callVerdict, changed, after, chosenFloats, observation}
 use Rattle.model.specs.Promises.{Started, Framed}
 use Rattle.model.specs.Laws.Answers.{then-left}
 use Rattle.model.specs.Laws.Output.{matrix-at, frame-length}
 use Rattle.model.specs.Laws.Passed.{few-joints}
-use Rattle.printing.specs.Written.{Written}
+use Rattle.printing.specs.Written.{Written, jointLines}
 use Rattle.printing.proofs.Laws.{more-written, length-written, joined-same}
 use Rattle.calls.specs.declared.Call as Read
 use Rattle.calls.specs.declared.Call.the-variants as read
@@ -58,14 +60,14 @@ unfolding _then_
 room-same accepted a b need room n fits = rw (le-leb need room (fits refl .0), le-leb need n (fits refl .1))
 room-same (refused number place rest) a b need room n fits = refl
 
--- no frame that the plan's check lets pass needs more than 1,024 floats
-pub frame-room : (plan : List ℕ) (numbers : List Float) (p : Player) (room n : ℕ) → (room ≡ n) ⊎ ((room ≡ 1024) × (1024 ≤ n))
+-- no frame that the plan's check lets pass needs more than the longest output
+pub frame-room : (plan : List ℕ) (numbers : List Float) (p : Player) (room n : ℕ) → (room ≡ n) ⊎ ((room ≡ maxOutput) × (maxOutput ≤ n))
     → frameVerdict plan numbers p room ≡ frameVerdict plan numbers p n
 unfolding frameVerdict
 frame-room plan numbers p room n (inl e) = rw e
 frame-room plan numbers p room n (inr h) =
     room-same (check plan (length numbers)) _ _ (outputAt (jointCount plan)) room n
-    (λ e. let few : jointCount plan ≤ 64 = few-joints plan (length numbers) e in (omega (arith, h), omega (arith, h)))
+    (λ e. let few : jointCount plan ≤ maxJoints = few-joints plan (length numbers) e in (omega (arith, h), omega (arith, h)))
 
 -- ---- one call
 
@@ -100,11 +102,11 @@ module _ (plan : List ℕ) (numbers : List Float) (p : Player) (kind : FrameKind
     unfolding callVerdict changed after
     frame-player = rw (← same) (framed .player)
 
-    pub frame-refused : (number place : ℕ) (floats : List Float) → r .answer ≡ Refused number place → NothingShown (r .answer) (r .player) d
+    pub frame-refused : (refusal : Refusal) (floats : List Float) → r .answer ≡ Refused refusal → NothingShown (r .answer) (r .player) d
         → Done plan numbers p (Frame kind ext n) floats d
     unfolding values unlessRefused
-    frame-refused number place floats e h =
-        let v : callVerdict plan numbers p (Frame kind ext n) ≡ refused number place 0 = sym frame-answer ∙ ap values e in
+    frame-refused refusal floats e h =
+        let v : callVerdict plan numbers p (Frame kind ext n) ≡ refused (refusal .number) (refusal .place) 0 = sym frame-answer ∙ ap values e in
         nothing-done plan numbers p floats (Frame kind ext n) frame-answer frame-player (rw v) h
 
     module _ (rest : List Float) (e : r .answer ≡ Accepted) where
@@ -112,14 +114,14 @@ module _ (plan : List ℕ) (numbers : List Float) (p : Player) (kind : FrameKind
       unfolding values
       frame-accepted = sym (framed .answer) ∙ ap values e
 
-      few-shown : jointCount plan ≤ 64
+      few-shown : jointCount plan ≤ maxJoints
       unfolding frameVerdict
       few-shown = few-joints plan (length numbers) (then-left _ _ (then-left _ _ (then-left _ _ frame-accepted)))
 
       abbrev matrices : List Matrix4
       matrices = frameMatrices plan numbers p ext kind
 
-      lines : joined (jointCount plan) (λ j. jointLine j (take 16 (drop (16 * j) (new ++ rest)))) ≡ matrixLines (map (λ j. floats (getD matrices j identityMatrix)) (below (jointCount plan)))
+      lines : jointLines (jointCount plan) (new ++ rest) ≡ matrixLines (map (λ j. floats (getD matrices j identityMatrix)) (below (jointCount plan)))
       unfolding unlessRefused written
       lines =
           let o : new ≡ flat matrices ++ drop (outputAt (jointCount plan)) old = rw frame-accepted at (framed .output) in

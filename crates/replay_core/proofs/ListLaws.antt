@@ -18,7 +18,7 @@ use Rattle.calls.specs.Read.{lineOf, lineRead}
 use Rattle.replay_core.specs.declared.CallDone.{CallDone}
 use Rattle.replay_core.specs.declared.Progress.{Progress}
 use Rattle.replay_core.specs.Replay.{texts, reportFrom, playerAfter}
-use Rattle.replay_core.specs.Replaying.{Done, Called, callText, Rest, Performing}
+use Rattle.replay_core.specs.Replaying.{maxReport, Done, Called, callText, Rest, Performing}
 use Rattle.calls.proofs.Laws.{first-call}
 use Rattle.replay_core.proofs.Laws.{front-written, call-text}
 
@@ -29,7 +29,7 @@ line-rest Malformed s rest c e = absurd (let z : _≡_ {A = ℕ} 0 1 = cc in ome
 line-rest (Update delta) s rest c e = cc
 line-rest (Speed value) s rest c e = cc
 line-rest (Set parameter value) s rest c e = cc
-line-rest (Frame isPage ext outputLength) s rest c e = cc
+line-rest (Frame kind ext outputLength) s rest c e = cc
 
 module _ (plan : List ℕ) (numbers : List Float) where
   -- ---- the first of some calls is performed
@@ -70,7 +70,7 @@ module _ (plan : List ℕ) (numbers : List Float) where
       -- the calls of lines - left lines are performed
       pub record Performed (out : List ℕ) (here left : ℕ) (q : Player) (end : ℕ) : Type 0 where
         pub inside : end ≤ length out
-        pub short : end + 10000 * left ≤ 10000 * lines
+        pub short : end + maxReport * left ≤ maxReport * lines
         pub rest : (cs : List Call) → readCalls lines (drop at text) ≡ calls cs → Rest plan numbers text p cs (take end out) here left q
 
       pub nothing-performed : (out : List ℕ) → Performed out at lines p 0
@@ -82,8 +82,8 @@ module _ (plan : List ℕ) (numbers : List Float) where
           }
 
       pub next-performed : {out after : List ℕ} {floats : List Float} {here left end behind : ℕ} {q : Player} {r : CallAt} {d : CallDone}
-          → Performed out here left q end → 0 < left → end + 10000 ≤ length out → lineRead text r ≡ callIn (drop here text)
-          → Called plan numbers q (r .call) floats d → Written out end (callText d floats) after behind → behind ≤ end + 10000
+          → Performed out here left q end → 0 < left → end + maxReport ≤ length out → lineRead text r ≡ callIn (drop here text)
+          → Called plan numbers q (r .call) floats d → Written out end (callText d floats) after behind → behind ≤ end + maxReport
           → Performed after (r .end) (left - 1) (d .player) behind
       next-performed {left = left} so-far some room read called put longest =
           record {
@@ -93,7 +93,7 @@ module _ (plan : List ℕ) (numbers : List Float) where
           }
 
       -- the loop stops behind the last line, or where there is no room
-      pub performing : {out : List ℕ} (r : Progress) → Performed out (r .at) (r .lines) (r .player) (r .length) → (r .lines ≡ 0) ⊎ (length out < r .length + 10000)
+      pub performing : {out : List ℕ} (r : Progress) → Performed out (r .at) (r .lines) (r .player) (r .length) → (r .lines ≡ 0) ⊎ (length out < r .length + maxReport)
           → Performing plan numbers text at lines p out r
       performing r so-far (inl e) = record { inside = so-far .inside; fewer = λ room some. omega arith; rest = so-far .rest }
       performing r so-far (inr e) = record { inside = so-far .inside; fewer = λ room some. omega (arith, so-far .short); rest = so-far .rest }

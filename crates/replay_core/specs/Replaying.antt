@@ -1,5 +1,5 @@
 -- What the functions of this crate ensure. Definitions only.
-use Prim.Native.Nat.{ℕ, _*_, _≤_, _<_}
+use Prim.Native.Nat.{ℕ, _+_, _≤_, _<_}
 use mathlib.Core.Path.{_≡_}
 use mathlib.Core.List.{List, [], _++_}
 use lib.ListN.{length, take, drop}
@@ -7,17 +7,23 @@ use lib.Ieee.{Float}
 use Rattle.model.specs.declared.Answer.{Answer}
 use Rattle.model.specs.declared.Player.{Player}
 use Rattle.model.specs.Answers.{values, unlessRefused}
-use Rattle.model.specs.Plan.{jointCount}
-use Rattle.model.specs.Program.{jointLine, joined}
+use Rattle.model.specs.Plan.{maxJoints, jointCount}
 use Rattle.model.specs.Run.{Call, callVerdict, after, chosenFloats, startPlayer}
+use Rattle.printing.specs.Written.{jointLines}
+use Rattle.printing.specs.Sizes.{refusalSize, maxPrinted}
 use Rattle.calls.specs.declared.Call as Read
 use Rattle.calls.specs.CallText.{line, calls, readCalls}
 use Rattle.calls.specs.Read.{lineOf}
 use Rattle.report.specs.Report.{below, matrixLines, answerLine, playerLine}
+use Rattle.report.specs.Sizes.{playerSize}
 use Rattle.replay_core.specs.declared.CallDone.{CallDone}
 use Rattle.replay_core.specs.declared.Begun.{Begun}
 use Rattle.replay_core.specs.declared.Progress.{Progress}
 use Rattle.replay_core.specs.Replay.{reportFrom, playerAfter, startText}
+
+-- the bytes of the longest report
+abbrev pub maxReport : ℕ
+maxReport = refusalSize + playerSize + maxPrinted
 
 -- the front of a slice
 pub record Front (text out : List ℕ) (n : ℕ) : Type 0 where
@@ -34,20 +40,20 @@ pub record NothingShown (a : Answer) (p : Player) (r : CallDone) : Type 0 where
 pub record Done (plan : List ℕ) (numbers : List Float) (p : Player) (c : Call) (floats : List Float) (r : CallDone) : Type 0 where
   pub answer : values (r .answer) ≡ callVerdict plan numbers p c
   pub player : r .player ≡ after plan numbers p c
-  pub few : r .joints ≤ 64
-  pub shown : joined (r .joints) (λ j. jointLine j (take 16 (drop (16 * j) floats)))
+  pub few : r .joints ≤ maxJoints
+  pub shown : jointLines (r .joints) floats
       ≡ matrixLines (unlessRefused (callVerdict plan numbers p c) (chosenFloats plan numbers (below (jointCount plan)) p c) [])
 
 -- the same for a line that was read: whatever call it holds
 pub record Called (plan : List ℕ) (numbers : List Float) (p : Player) (call : Read.Call) (floats : List Float) (r : CallDone) : Type 0 where
-  pub few : r .joints ≤ 64
+  pub few : r .joints ≤ maxJoints
   pub done : (c : Call) (s rest : List ℕ) → lineOf call s ≡ line c rest → Done plan numbers p c floats r
 
 -- what is put for a call
 unfoldable pub callText : CallDone → List Float → List ℕ
 callText r floats =
     answerLine (values (r .answer)) ++ playerLine (r .player .clock) (r .player .speed) (r .player .state) (r .player .transition) ++
-    joined (r .joints) (λ j. jointLine j (take 16 (drop (16 * j) floats)))
+    jointLines (r .joints) floats
 
 -- the start
 pub record Beginning (plan : List ℕ) (numbers : List Float) (out : List ℕ) (r : Begun) : Type 0 where
@@ -61,10 +67,10 @@ pub record Rest (plan : List ℕ) (numbers : List Float) (text : List ℕ) (p : 
   pub shown : reportFrom plan numbers p cs ≡ front ++ reportFrom plan numbers q left
   pub player : playerAfter plan numbers p cs ≡ playerAfter plan numbers q left
 
--- calls performed one after the other as long as `out` has room for a report, which is at least one call in 10,000 bytes: what they show stands in its front
+-- calls performed one after the other as long as `out` has room for a report, which is at least one call where that is long enough: what they show stands in its front
 pub record Performing (plan : List ℕ) (numbers : List Float) (text : List ℕ) (at lines : ℕ) (p : Player) (out : List ℕ) (r : Progress) : Type 0 where
   pub inside : r .length ≤ length out
-  pub fewer : 10000 ≤ length out → 0 < lines → r .lines < lines
+  pub fewer : maxReport ≤ length out → 0 < lines → r .lines < lines
   pub rest : (cs : List Call) → readCalls lines (drop at text) ≡ calls cs → Rest plan numbers text p cs (take (r .length) out) (r .at) (r .lines) (r .player)
 
 -- calls performed until no line is left, and what all of them show

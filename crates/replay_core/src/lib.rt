@@ -11,11 +11,16 @@ use controller::update;
 use layout::JOINT_COUNT_AT;
 use layout::word;
 use model::Answer;
+use model::FrameKind;
 use model::Outcome;
 use model::Player;
+use model::limits::MAX_OUTPUT;
+use printing::MAX_PRINTED;
+use printing::REFUSAL_SIZE;
 use printing::put_bytes;
 use printing::put_decimal;
 use printing::put_joints;
+use report::PLAYER_SIZE;
 use report::put_answer;
 use report::put_instances;
 use report::put_parameters;
@@ -24,15 +29,16 @@ ghost use mathlib.Core.Path.{_≡_};
 ghost use Prim.Native.Nat.{_+_, _≤_};
 ghost use lib.ListN.{length};
 ghost use Rattle.model.specs.declared.Answer.the-variants as Answer;
-ghost use Rattle.model.specs.Run.{Frame, kindOf};
+ghost use Rattle.model.specs.Plan.{maxJoints, maxOutput};
+ghost use Rattle.model.specs.Run.{Frame};
 ghost use Rattle.model.specs.Promises.{Framed};
 ghost use Rattle.printing.specs.Written.{Written};
 ghost use Rattle.report.specs.Report.{endText};
 ghost use Rattle.replay_core.specs.Replay.{malformedLine};
-ghost use Rattle.replay_core.specs.Replaying.{Front, NothingShown, Done, Called, callText, Beginning, Performing};
+ghost use Rattle.replay_core.specs.Replaying.{maxReport, Front, NothingShown, Done, Called, callText, Beginning, Performing};
 
-// The longest report of a call, with 64 joints, is shorter.
-const MOST_REPORT: usize = 10000;
+// The longest report of a call, or anything else that is put at once: an answer, the player and the lines of all joints.
+pub const MAX_REPORT: usize = REFUSAL_SIZE + PLAYER_SIZE + MAX_PRINTED;
 
 // A call's outcome, and how many joints' matrices it left in the floats.
 pub struct CallDone {
@@ -84,37 +90,37 @@ fn frame_of(
     plan: &[u16],
     numbers: &[f32],
     player: Player,
-    is_page: bool,
+    kind: FrameKind,
     ext: f64,
     output: &mut [f32],
 ) -> Outcome
-    ensures { λ r. ⌜ Framed (kindOf «is_page») (now (plan .entry)) (now (numbers .entry)) player ext (now (output .entry)) (now (output .exit)) r ⌝ }
+    ensures { λ r. ⌜ Framed kind (now (plan .entry)) (now (numbers .entry)) player ext (now (output .entry)) (now (output .exit)) r ⌝ }
 {
-    if is_page {
-        return page_frame(plan, numbers, player, ext, output);
+    match kind {
+        FrameKind::Ordinary => frame(plan, numbers, player, ext, output),
+        FrameKind::Page => page_frame(plan, numbers, player, ext, output),
     }
-    frame(plan, numbers, player, ext, output)
 }
 
-// No frame needs more than 1,024 floats, so a longer output is answered alike.
+// No frame needs a longer output than MAX_OUTPUT, so a longer output is answered alike.
 fn frame_done(
     plan: &[u16],
     numbers: &[f32],
     player: Player,
-    is_page: bool,
+    kind: FrameKind,
     ext: f64,
     output_length: usize,
     floats: &mut [f32],
 ) -> CallDone
-    requires { ⌜ length (now floats) ≡ 1024 ⌝ }
-    ensures { λ r. ⌜ Done (now (plan .entry)) (now (numbers .entry)) player (Frame (kindOf «is_page») ext «output_length») (now (floats .exit)) r × (length (now (floats .exit)) ≡ 1024) ⌝ }
+    requires { ⌜ length (now floats) ≡ maxOutput ⌝ }
+    ensures { λ r. ⌜ Done (now (plan .entry)) (now (numbers .entry)) player (Frame kind ext «output_length») (now (floats .exit)) r × (length (now (floats .exit)) ≡ maxOutput) ⌝ }
 {
-    let room = if output_length < 1024 {
+    let room = if output_length < MAX_OUTPUT {
         output_length
     } else {
-        1024
+        MAX_OUTPUT
     };
-    let outcome = frame_of(plan, numbers, player, is_page, ext, &mut floats[..room]);
+    let outcome = frame_of(plan, numbers, player, kind, ext, &mut floats[..room]);
     let answer = outcome.answer;
     let Answer::Accepted = answer else {
         return done(outcome);
@@ -135,61 +141,49 @@ fn call_done(
     call: Call,
     floats: &mut [f32],
 ) -> CallDone
-    requires { ⌜ length (now floats) ≡ 1024 ⌝ }
-    ensures { λ r. ⌜ Called (now (plan .entry)) (now (numbers .entry)) player call (now (floats .exit)) r × (length (now (floats .exit)) ≡ 1024) ⌝ }
+    requires { ⌜ length (now floats) ≡ maxOutput ⌝ }
+    ensures { λ r. ⌜ Called (now (plan .entry)) (now (numbers .entry)) player call (now (floats .exit)) r × (length (now (floats .exit)) ≡ maxOutput) ⌝ }
 {
     match call {
         Call::Malformed => accepted(player),
         Call::Update { delta } => accepted(update(player, delta)),
         Call::Speed { value } => accepted(speed(player, value)),
         Call::Set { parameter, value } => done(set(player, parameter, value)),
-        Call::Frame {
-            is_page,
+        Call::Frame { kind, ext, length } => frame_done(
+            plan,
+            numbers,
+            player,
+            kind,
             ext,
             length,
-        } => frame_done(plan, numbers, player, is_page, ext, length, floats),
+            floats,
+        ),
     }
 }
 
 // The answer, the player and the joints.
 fn put_call(out: &mut [u8], at: usize, call: CallDone, floats: &[f32]) -> usize
-    requires { ⌜ (at + 10000 ≤ length (now out)) × (call .joints ≤ 64) × (length (now floats) ≡ 1024) ⌝ }
-    ensures { λ r. ⌜ Written (now (out .entry)) at (callText call (now (floats .entry))) (now (out .exit)) r × (r ≤ at + 10000) ⌝ }
+    requires { ⌜ (at + maxReport ≤ length (now out)) × (call .joints ≤ maxJoints) × (length (now floats) ≡ maxOutput) ⌝ }
+    ensures { λ r. ⌜ Written (now (out .entry)) at (callText call (now (floats .entry))) (now (out .exit)) r × (r ≤ at + maxReport) ⌝ }
 {
     let answer = call.answer;
     let player = call.player;
-    let transition = player.transition;
     let behind_answer = put_answer(out, at, answer);
-    let behind_player = put_player(
-        out,
-        behind_answer,
-        player.clock,
-        player.speed,
-        player.state,
-        transition,
-    );
+    let behind_player = put_player(out, behind_answer, player);
     put_joints(out, behind_player, call.joints, floats)
 }
 
 // ---- a list
 
 // The start's answer and player.
-pub fn begin(plan: &[u16], numbers: &[f32], out: &mut [u8; 16384]) -> Begun
+pub fn begin(plan: &[u16], numbers: &[f32], out: &mut [u8; MAX_REPORT]) -> Begun
     ensures { λ r. ⌜ Beginning (now (plan .entry)) (now (numbers .entry)) (now (out .exit)) r ⌝ }
 {
     let started = start(plan, numbers);
     let answer = started.answer;
     let player = started.player;
-    let transition = player.transition;
     let at = put_answer(out, 0, answer);
-    let length = put_player(
-        out,
-        at,
-        player.clock,
-        player.speed,
-        player.state,
-        transition,
-    );
+    let length = put_player(out, at, player);
     Begun {
         player: player,
         length: length,
@@ -208,13 +202,13 @@ pub fn perform(
 ) -> Progress
     ensures { λ r. ⌜ Performing (now (plan .entry)) (now (numbers .entry)) (now (text .entry)) at lines player (now (out .exit)) r ⌝ }
 {
-    let mut floats = [0.0f32; 1024];
+    let mut floats = [0.0f32; MAX_OUTPUT];
     let mut moved = player;
     let mut here = at;
     let mut left = lines;
     let mut length = 0;
     while left > 0 {
-        if out.len() - length < MOST_REPORT {
+        if out.len() - length < MAX_REPORT {
             break;
         }
         let read = call_at(text, here);
@@ -234,7 +228,7 @@ pub fn perform(
 }
 
 // The parameters and the instances, once the calls are done.
-pub fn finish(player: Player, out: &mut [u8; 16384]) -> usize
+pub fn finish(player: Player, out: &mut [u8; MAX_REPORT]) -> usize
     ensures { λ r. ⌜ Front (endText player) (now (out .exit)) r ⌝ }
 {
     let parameters = player.parameters;
@@ -244,7 +238,7 @@ pub fn finish(player: Player, out: &mut [u8; 16384]) -> usize
 }
 
 // The line that says which line of a list is malformed.
-pub fn put_malformed(line: usize, out: &mut [u8; 16384]) -> usize
+pub fn put_malformed(line: usize, out: &mut [u8; MAX_REPORT]) -> usize
     ensures { λ r. ⌜ Front (malformedLine line) (now (out .exit)) r ⌝ }
 {
     let behind_name = put_bytes(out, 0, b"malformed");

@@ -5,7 +5,6 @@ use borrow.Author.Needs.{needs}
 use Rattle.model.specs.Answers.{values, unlessRefused}
 use Rattle.model.specs.Run as Run
 use Rattle.model.specs.Run.{callVerdict, changed, after, chosenFloats}
-use Rattle.model.specs.Run.{kindOf}
 use Rattle.calls.specs.Read.{lineOf}
 use Rattle.replay_core.proofs.Laws.{unless-same, nothing-done, called, malformed-called}
 use Rattle.replay_core.proofs.call_done.Statement.{statement}
@@ -43,7 +42,7 @@ unfolding lineOf
 returns-5 c =
     let f = c .before .before in
     let t = f .before .before .before .call4 .given in (
-      called _ _ _ _ _ _ _ (Run.Frame (kindOf (t .0 .0)) (t .0 .1 .0) (t .0 .1 .1 .0)) (t .1) (λ s. refl) (f .frame-done .ensures .0),
+      called _ _ _ _ _ _ _ (Run.Frame (t .0 .0) (t .0 .1 .0) (t .0 .1 .1 .0)) (t .1) (λ s. refl) (f .frame-done .ensures .0),
       f .frame-done .ensures .1,
     )
 

@@ -6,6 +6,7 @@ use mathlib.Core.Logic.{_⊎_, inl, inr, ⊎-elim}
 use lib.ListN.{length, take}
 use lib.Seq.{length-take-le}
 use borrow.Author.Needs.{needs}
+use Rattle.model.specs.Plan.{maxOutput}
 use Rattle.replay_core.proofs.Laws.{frame-room, frame-refused, frame-done}
 use Rattle.replay_core.proofs.frame_done.Statement.{statement}
 use Rattle.replay_core.proofs.frame_done.Tie as tie
@@ -20,7 +21,7 @@ slice-aggregate-frame-of c = sym (length-take-le _ _ (slice-relend-prefix-frame-
 room-as : (c : tie.After-frame-of-arg)
     → let n = length (take (c .before .if1 .room) (c .before .before .before .before .before .args .floats .now)) in
     let asked = c .before .before .before .before .before .args .output-length in
-    (n ≡ asked) ⊎ ((n ≡ 1024) × (1024 ≤ asked))
+    (n ≡ asked) ⊎ ((n ≡ maxOutput) × (maxOutput ≤ asked))
 room-as c =
     ⊎-elim (λ w. inl (omega (arith, slice-aggregate-frame-of c))) (λ w. inr (omega (arith, slice-aggregate-frame-of c), omega arith)) (c .before .if1 .came)
 
@@ -28,7 +29,7 @@ returns : tie.Need-returns
 returns c =
     let t = c .before in
     let f = t .before .before .before .before in (
-      frame-refused _ _ _ _ _ _ _ _ (f .frame-of .ensures) _ (frame-room _ _ _ _ _ (room-as (f .before))) _ _ _ _ (t .enum-told2 .given .1) (c .done .ensures),
+      frame-refused _ _ _ _ _ _ _ _ (f .frame-of .ensures) _ (frame-room _ _ _ _ _ (room-as (f .before))) _ _ _ (t .enum-told2 .given .1) (c .done .ensures),
       search needs,
     )
 

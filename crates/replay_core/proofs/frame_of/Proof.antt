@@ -6,12 +6,12 @@ use Rattle.replay_core.proofs.frame_of.Tie as tie
 returns : tie.Need-returns
 returns c =
     let f = c .before .before in
-    rw (f .before .before .if1 .taken) (f .page-frame .ensures)
+    rw (f .before .before .enum-told .given .1) (f .frame .ensures)
 
 returns-2 : tie.Need-returns-2
 returns-2 c =
     let f = c .before .before in
-    rw (f .before .before .if1 .left) (f .frame .ensures)
+    rw (f .before .before .enum-told2 .given .1) (f .page-frame .ensures)
 
 pub frame-of-spec : {M : Type 1} → statement M
-frame-of-spec = tie.close (tie.spec (search needs) (search needs) returns (search needs) (search needs) returns-2)
+frame-of-spec = tie.close (tie.spec (search needs) (search needs) (search needs) (search needs) (search needs) returns (search needs) returns-2)

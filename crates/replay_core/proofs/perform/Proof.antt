@@ -4,13 +4,14 @@ use mathlib.Core.Path.{_≡_}
 use mathlib.Core.Logic.{inl, inr}
 use lib.ListN as list
 use borrow.Author.Needs.{needs}
+use Rattle.model.specs.Plan.{maxOutput}
 use Rattle.replay_core.proofs.ListLaws.{Performed, nothing-performed, next-performed, performing}
 use Rattle.replay_core.proofs.perform.Statement.{statement}
 use Rattle.replay_core.proofs.perform.Tie as tie
 
 abbrev Inv-loop : tie.InvT-loop
 Inv-loop plan numbers text at lines out₀ floats₀ moved₀ here₀ left₀ length₀ out floats moved here left length =
-    (list.length floats ≡ 1024) × (list.length out ≡ list.length out₀) × Performed plan numbers text at lines moved₀ out here left moved length
+    (list.length floats ≡ maxOutput) × (list.length out ≡ list.length out₀) × Performed plan numbers text at lines moved₀ out here left moved length
 
 abbrev μ-loop : tie.MeasureT-loop
 μ-loop plan numbers text at lines out₀ floats₀ moved₀ here₀ left₀ length₀ out floats moved here left length = left
