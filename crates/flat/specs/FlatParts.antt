@@ -1,35 +1,29 @@
 -- A flat player by its parts, as functions have it that borrow its arrays. Definitions only.
-use Prim.Native.Nat.{ℕ}
+use mathlib.Core.Path.{_≡_}
 use mathlib.Core.List.{List}
 use lib.Ieee.{Float}
-use Rattle.model.specs.declared.Transition.{Transition}
-use Rattle.model.specs.declared.Transition.the-variants.{Idle, Running}
-use Rattle.model.specs.Numbers.{0f}
-use Rattle.frames.specs.declared.FrameParts.{FrameParts}
+use Rattle.frames.specs.declared.Parts.{Parts}
+use Rattle.frames.specs.Parts.{playerOf}
+use Rattle.flat.specs.Flat.{unpacked, packed}
 use Rattle.flat.specs.declared.FlatPlayer.{FlatPlayer}
-use Rattle.flat.specs.declared.FlatAnswer.{FlatAnswer}
-use Rattle.flat.specs.declared.FlatFrame.{FlatFrame}
+use Rattle.flat.specs.declared.FlatParts.{FlatParts}
 
-abbrev pub flatOf : Float → Float → ℕ → ℕ → Float → ℕ → Float → List Float → List Float → FlatPlayer
-flatOf clock speed state running start target duration parameters instances = record {
-  clock = clock;
-  speed = speed;
-  state = state;
-  running = running;
-  start = start;
-  target = target;
-  duration = duration;
+abbrev pub flatOf : FlatParts → List Float → List Float → FlatPlayer
+flatOf parts parameters instances = record {
+  clock = parts .clock;
+  speed = parts .speed;
+  state = parts .state;
+  running = parts .running;
+  start = parts .start;
+  target = parts .target;
+  duration = parts .duration;
   parameters = parameters;
   instances = instances;
 }
 
-abbrev pub answerOf : FlatFrame → FlatAnswer
-answerOf r = record { number = r .number; place = r .place }
+-- with any arrays: the player that the flat one stands for, and the flat player that calls store
+abbrev pub UnpackedParts : FlatParts → Parts → Type 0
+UnpackedParts flat parts = (parameters instances : List Float) → playerOf parts parameters instances ≡ unpacked (flatOf flat parameters instances)
 
--- what an accepted frame stores beside the instances
-unfoldable pub acceptedAs : ℕ → Transition → FlatFrame
-acceptedAs state Idle = record { number = 0; place = 0; state = state; running = 0; start = 0f; target = 0; duration = 0f }
-acceptedAs state (Running start target duration) = record { number = 0; place = 0; state = state; running = 1; start = start; target = target; duration = duration }
-
-abbrev pub acceptedFrame : FrameParts → FlatFrame
-acceptedFrame parts = acceptedAs (parts .state) (parts .transition)
+abbrev pub PackedParts : Parts → FlatParts → Type 0
+PackedParts parts flat = (parameters instances : List Float) → flatOf flat parameters instances ≡ packed (playerOf parts parameters instances)

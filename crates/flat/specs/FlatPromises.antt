@@ -6,11 +6,12 @@ use mathlib.Core.List.{List}
 use lib.ListN.{length}
 use lib.Ieee.{Float}
 use Rattle.model.specs.declared.Player.{Player}
+use Rattle.model.specs.declared.FrameKind.{FrameKind}
 use Rattle.model.specs.Answers.{Verdict, unlessRefused}
 use Rattle.model.specs.Controller.{updated, withSpeed, parameterSet, setVerdict, frameVerdict}
 use Rattle.model.specs.Skeleton.{written}
 use Rattle.model.specs.Text.{readFigure, textVerdict, whenAccepted, overwritten, readWords, readFloats}
-use Rattle.model.specs.Run.{startVerdict, startPlayer, FrameKind, framePlayer, frameMatrices}
+use Rattle.model.specs.Run.{startVerdict, startPlayer, framePlayer, frameMatrices}
 use Rattle.flat.specs.declared.FlatPlayer.{FlatPlayer}
 use Rattle.flat.specs.declared.FlatAnswer.{FlatAnswer}
 use Rattle.flat.specs.declared.FlatTextAnswer.{FlatTextAnswer}

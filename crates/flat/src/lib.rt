@@ -4,19 +4,22 @@ use controller::set;
 use controller::speed;
 use controller::start;
 use controller::update;
-use frames::FrameParts;
+use frames::Parts;
+use frames::frame;
 use model::Answer;
+use model::FrameKind;
 use model::Outcome;
 use model::Player;
 use model::TextAnswer;
 use model::Transition;
+use model::limits::MAX_INSTANCES;
+use model::limits::MAX_PARAMETERS;
 ghost use mathlib.Core.Path.{_≡_};
 ghost use Rattle.model.specs.Answers.{values};
 ghost use Rattle.model.specs.Text.{textValues};
-ghost use Rattle.model.specs.Run.{kindOf};
-ghost use Rattle.flat.specs.Flat.{transitionOf, unpacked, packed, flatAnswer, flatTextAnswer};
+ghost use Rattle.flat.specs.Flat.{unpacked, packed, flatAnswer, flatTextAnswer};
 ghost use Rattle.flat.specs.FlatPromises.{FlatStarted, FlatUpdated, FlatSpeedSet, FlatParameterSet, FlatFramed};
-ghost use Rattle.flat.specs.FlatParts.{flatOf, answerOf, acceptedFrame};
+ghost use Rattle.flat.specs.FlatParts.{flatOf, UnpackedParts, PackedParts};
 
 // Start, target and duration count where `running` is not 0.
 #[repr(C)]
@@ -28,8 +31,19 @@ pub struct FlatPlayer {
     pub start: f64,
     pub target: usize,
     pub duration: f32,
-    pub parameters: [f32; 32],
-    pub instances: [f32; 192],
+    pub parameters: [f32; MAX_PARAMETERS],
+    pub instances: [f32; MAX_INSTANCES],
+}
+
+// The numbers of a flat player, without its arrays.
+pub struct FlatParts {
+    pub clock: f64,
+    pub speed: f64,
+    pub state: usize,
+    pub running: usize,
+    pub start: f64,
+    pub target: usize,
+    pub duration: f32,
 }
 
 // Number 0 is the acceptance.
@@ -56,16 +70,53 @@ pub struct FlatOutcome {
 
 // ---- there and back
 
-fn transition_of(running: usize, start: f64, target: usize, duration: f32) -> Transition
-    ensures { λ r. ⌜ r ≡ transitionOf running start target duration ⌝ }
+fn unpack_parts(flat: FlatParts) -> Parts
+    ensures { λ r. ⌜ UnpackedParts flat r ⌝ }
 {
-    if running == 0 {
-        return Transition::Idle;
+    let transition = if flat.running == 0 {
+        Transition::Idle
+    } else {
+        Transition::Running {
+            start: flat.start,
+            target: flat.target,
+            duration: flat.duration,
+        }
+    };
+    Parts {
+        clock: flat.clock,
+        speed: flat.speed,
+        state: flat.state,
+        transition: transition,
     }
-    Transition::Running {
-        start: start,
-        target: target,
-        duration: duration,
+}
+
+fn pack_parts(parts: Parts) -> FlatParts
+    ensures { λ r. ⌜ PackedParts parts r ⌝ }
+{
+    let transition = parts.transition;
+    match transition {
+        Transition::Idle => FlatParts {
+            clock: parts.clock,
+            speed: parts.speed,
+            state: parts.state,
+            running: 0,
+            start: 0.0,
+            target: 0,
+            duration: 0.0,
+        },
+        Transition::Running {
+            start,
+            target,
+            duration,
+        } => FlatParts {
+            clock: parts.clock,
+            speed: parts.speed,
+            state: parts.state,
+            running: 1,
+            start: start,
+            target: target,
+            duration: duration,
+        },
     }
 }
 
@@ -74,11 +125,20 @@ fn unpack(flat: FlatPlayer) -> Player
 {
     let parameters = flat.parameters;
     let instances = flat.instances;
-    let transition = transition_of(flat.running, flat.start, flat.target, flat.duration);
-    Player {
+    let parts = unpack_parts(FlatParts {
         clock: flat.clock,
         speed: flat.speed,
         state: flat.state,
+        running: flat.running,
+        start: flat.start,
+        target: flat.target,
+        duration: flat.duration,
+    });
+    let transition = parts.transition;
+    Player {
+        clock: parts.clock,
+        speed: parts.speed,
+        state: parts.state,
         transition: transition,
         parameters: parameters,
         instances: instances,
@@ -91,33 +151,22 @@ fn pack(player: Player) -> FlatPlayer
     let parameters = player.parameters;
     let instances = player.instances;
     let transition = player.transition;
-    match transition {
-        Transition::Idle => FlatPlayer {
-            clock: player.clock,
-            speed: player.speed,
-            state: player.state,
-            running: 0,
-            start: 0.0,
-            target: 0,
-            duration: 0.0,
-            parameters: parameters,
-            instances: instances,
-        },
-        Transition::Running {
-            start,
-            target,
-            duration,
-        } => FlatPlayer {
-            clock: player.clock,
-            speed: player.speed,
-            state: player.state,
-            running: 1,
-            start: start,
-            target: target,
-            duration: duration,
-            parameters: parameters,
-            instances: instances,
-        },
+    let parts = pack_parts(Parts {
+        clock: player.clock,
+        speed: player.speed,
+        state: player.state,
+        transition: transition,
+    });
+    FlatPlayer {
+        clock: parts.clock,
+        speed: parts.speed,
+        state: parts.state,
+        running: parts.running,
+        start: parts.start,
+        target: parts.target,
+        duration: parts.duration,
+        parameters: parameters,
+        instances: instances,
     }
 }
 
@@ -129,9 +178,9 @@ fn flat_answer(answer: Answer) -> FlatAnswer
             number: 0,
             place: 0,
         },
-        Answer::Refused { number, place } => FlatAnswer {
-            number: number,
-            place: place,
+        Answer::Refused(refusal) => FlatAnswer {
+            number: refusal.number,
+            place: refusal.place,
         },
     }
 }
@@ -156,9 +205,9 @@ pub fn flat_text_answer(answer: TextAnswer) -> FlatTextAnswer
             words: words,
             numbers: numbers,
         },
-        TextAnswer::Refused { number, place } => FlatTextAnswer {
-            number: number,
-            place: place,
+        TextAnswer::Refused(refusal) => FlatTextAnswer {
+            number: refusal.number,
+            place: refusal.place,
             words: 0,
             numbers: 0,
         },
@@ -201,92 +250,52 @@ pub fn parameter_set(flat: FlatPlayer, parameter: usize, value: f32) -> FlatOutc
 
 // ---- frame and page frame: the player's owner lends its arrays
 
-// What a frame stores beside the instances, and its answer.
+// What a frame hands back beside the instances: its answer, and the numbers of the player after it.
 pub struct FlatFrame {
-    pub number: usize,
-    pub place: usize,
-    pub state: usize,
-    pub running: usize,
-    pub start: f64,
-    pub target: usize,
-    pub duration: f32,
-}
-
-// What an accepted frame stores.
-fn accepted(parts: FrameParts) -> FlatFrame
-    ensures { λ r. ⌜ r ≡ acceptedFrame parts ⌝ }
-{
-    let transition = parts.transition;
-    match transition {
-        Transition::Idle => FlatFrame {
-            number: 0,
-            place: 0,
-            state: parts.state,
-            running: 0,
-            start: 0.0,
-            target: 0,
-            duration: 0.0,
-        },
-        Transition::Running {
-            start,
-            target,
-            duration,
-        } => FlatFrame {
-            number: 0,
-            place: 0,
-            state: parts.state,
-            running: 1,
-            start: start,
-            target: target,
-            duration: duration,
-        },
-    }
+    pub answer: FlatAnswer,
+    pub parts: FlatParts,
 }
 
 // On the flat player's parts. Refused, they are handed back as they came.
 pub fn flat_frame(
-    is_page: bool,
+    kind: FrameKind,
     plan: &[u16],
     numbers: &[f32],
-    clock: f64,
-    speed: f64,
-    state: usize,
-    running: usize,
-    start: f64,
-    target: usize,
-    duration: f32,
-    parameters: &[f32; 32],
-    instances: &mut [f32; 192],
+    parts: FlatParts,
+    parameters: &[f32; MAX_PARAMETERS],
+    instances: &mut [f32; MAX_INSTANCES],
     ext: f64,
     output: &mut [f32],
 ) -> FlatFrame
-    ensures { λ r. ⌜ FlatFramed (kindOf «is_page») (now (plan .entry)) (now (numbers .entry)) (flatOf clock speed state running start target duration (now (parameters .entry)) (now (instances .entry))) ext (now (output .entry)) (now (output .exit)) (flatOf clock speed (r .state) (r .running) (r .start) (r .target) (r .duration) (now (parameters .entry)) (now (instances .exit))) (answerOf r) ⌝ }
+    ensures { λ r. ⌜ FlatFramed kind (now (plan .entry)) (now (numbers .entry)) (flatOf parts (now (parameters .entry)) (now (instances .entry))) ext (now (output .entry)) (now (output .exit)) (flatOf (r .parts) (now (parameters .entry)) (now (instances .exit))) (r .answer) ⌝ }
 {
-    let transition = transition_of(running, start, target, duration);
-    let parts = frames::frame(
-        is_page,
+    let before = unpack_parts(parts);
+    let frame = frame(
+        kind,
         plan,
         numbers,
-        clock,
-        speed,
-        state,
-        transition,
+        before,
         parameters,
         instances,
         ext,
         output,
     );
-    let answer = parts.answer;
-    let Answer::Refused { number, place } = answer else {
-        return accepted(parts);
+    let answer = frame.answer;
+    let flat = flat_answer(answer);
+    let Answer::Accepted = answer else {
+        return FlatFrame {
+            answer: flat,
+            parts: parts,
+        };
     };
+    let transition = frame.transition;
     FlatFrame {
-        number: number,
-        place: place,
-        state: state,
-        running: running,
-        start: start,
-        target: target,
-        duration: duration,
+        answer: flat,
+        parts: pack_parts(Parts {
+            clock: before.clock,
+            speed: before.speed,
+            state: frame.state,
+            transition: transition,
+        }),
     }
 }

@@ -1,17 +1,10 @@
--- `flat::pack` meets its contract, by the case of the transition. Assumes nothing.
+-- `flat::pack` meets its contract: the parts, packed, with the player's arrays. Assumes nothing.
 use borrow.Author.Needs.{needs}
-use lib.Ieee.{ofBits}
-use Rattle.flat.specs.Flat.{packed, packedAs, packedWith}
 use Rattle.flat.proofs.pack.Statement.{statement}
 use Rattle.flat.proofs.pack.Tie as tie
 
 returns : tie.Need-returns
-unfolding packed packedAs packedWith ofBits
-returns c = rw (c .enum-told .given .1)
-
-returns-2 : tie.Need-returns-2
-unfolding packed packedAs packedWith
-returns-2 c = rw (c .before .transition .given .1)
+returns c = c .pack-parts .ensures _ _
 
 pub pack-spec : {M : Type 1} → statement M
-pack-spec = tie.close (tie.spec (search needs) (search needs) returns returns-2)
+pack-spec = tie.close (tie.spec (search needs) returns)
