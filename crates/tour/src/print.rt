@@ -3,7 +3,9 @@ use libc::STDOUT_FILENO;
 use model::Answer;
 use model::Player;
 use model::Transition;
+use model::limits::MATRIX_FLOATS;
 ghost use Prim.Native.Nat.{_<_};
+ghost use Rattle.model.specs.Plan.{maxJoints};
 
 pub fn text(s: &[u8]) {
     io::write_all(STDOUT_FILENO, s);
@@ -27,13 +29,13 @@ fn double(x: f64) {
 // `call,ok` or `call,refused,number,place`.
 pub fn answer(call: &[u8], a: Answer) {
     text(call);
-    let Answer::Refused { number, place } = a else {
+    let Answer::Refused(refusal) = a else {
         text(b",ok\n");
         return;
     };
     text(b",refused");
-    decimal(number);
-    decimal(place);
+    decimal(refusal.number);
+    decimal(refusal.place);
     text(b"\n");
 }
 
@@ -76,15 +78,15 @@ pub fn floats(name: &[u8], index: usize, xs: &[f32]) {
     text(b"\n");
 }
 
-// `joint,index` and the joint's sixteen floats.
+// `joint,index` and the joint's matrix.
 pub fn joint(j: usize, output: &[f32])
-    requires { ⌜ j < 64 ⌝ }
+    requires { ⌜ j < maxJoints ⌝ }
 {
     text(b"joint");
     decimal(j);
     let mut i = 0;
-    while i < 16 {
-        single(layout::number(output, 16 * j + i));
+    while i < MATRIX_FLOATS {
+        single(layout::number(output, MATRIX_FLOATS * j + i));
         i += 1;
     }
     text(b"\n");

@@ -1,5 +1,6 @@
 // Two signs of an arm of two joints, with a transition each way; a page frame; and NaN.
 use crate::print;
+use crate::refusals::NO_PARENT;
 use controller::frame;
 use controller::page_frame;
 use controller::set;
@@ -7,10 +8,11 @@ use controller::speed;
 use controller::start;
 use controller::update;
 use model::Player;
+use model::limits::MATRIX_FLOATS;
 
 // A frame of two joints, and the player that it returns.
 fn show(plan: &[u16], numbers: &[f32], player: Player, ext: f64) -> Player {
-    let mut output = [0.0f32; 32];
+    let mut output = [0.0f32; 2 * MATRIX_FLOATS];
     let shown = frame(plan, numbers, player, ext, &mut output);
     let answer = shown.answer;
     print::answer(b"frame", answer);
@@ -30,7 +32,7 @@ pub fn there_and_back() {
         1,
         2,
         0,
-        255,
+        NO_PARENT,
         0,
         2,
         1,
@@ -135,9 +137,9 @@ pub fn there_and_back() {
 
 // One joint, turned by the rotation ½ ½ ½ ½.
 pub fn page() {
-    let plan: [u16; 13] = [1, 1, 0, 1, 0, 255, 1, 1, 0, 0, 0, 0, 0];
+    let plan: [u16; 13] = [1, 1, 0, 1, 0, NO_PARENT, 1, 1, 0, 0, 0, 0, 0];
     let numbers: [f32; 9] = [1.0, 1.0, 2.0, 3.0, 1.0, 0.5, 0.5, 0.5, 0.5];
-    let mut output = [0.0f32; 16];
+    let mut output = [0.0f32; MATRIX_FLOATS];
     let begun = start(&plan, &numbers);
     let player = begun.player;
     let shown = frame(&plan, &numbers, player, 0.0, &mut output);
@@ -161,7 +163,7 @@ pub fn nothing_but_nan() {
         1,
         1,
         0,
-        255,
+        NO_PARENT,
         1,
         1,
         3,
@@ -184,7 +186,7 @@ pub fn nothing_but_nan() {
     ];
     let nan: f32 = 0.0 / 0.0;
     let numbers = [nan; 20];
-    let mut output = [0.0f32; 16];
+    let mut output = [0.0f32; MATRIX_FLOATS];
     let wide: f64 = 0.0 / 0.0;
     let begun = start(&plan, &numbers);
     let begun_answer = begun.answer;

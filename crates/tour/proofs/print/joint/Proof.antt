@@ -1,15 +1,16 @@
--- `tour::print::joint` is safe and ends: sixteen turns. Assumes nothing.
+-- `tour::print::joint` is safe and ends: a turn for each float. Assumes nothing.
 use borrow.Author.Needs.{needs}
 use Prim.Native.Nat.{_-_, _≤_}
 use native.Mathlib.Omega.{arith}
+use Rattle.model.specs.Plan.{outputAt}
 use Rattle.tour.proofs.print.joint.Statement.{statement}
 use Rattle.tour.proofs.print.joint.Tie as tie
 
 abbrev Inv-loop : tie.InvT-loop
-Inv-loop j output i₀ t5 i = i ≤ 16
+Inv-loop j output i₀ t5 i = i ≤ outputAt 1
 
 abbrev μ-loop : tie.MeasureT-loop
-μ-loop j output i₀ t5 i = 16 - i
+μ-loop j output i₀ t5 i = outputAt 1 - i
 
 pub joint-spec : {M : Type 1} → statement M
 joint-spec =
