@@ -6,25 +6,29 @@ use mathlib.Core.List.{List}
 use lib.ListN.{length}
 use lib.Ieee.{Float}
 use borrow.Author.Tests.{le-leb}
+use Rattle.model.specs.Plan.{maxPlan}
 use Rattle.model.specs.Text.{Reading, bad, got, readFigure, textVerdict}
 use Rattle.model.specs.Laws.Reading.{figure-fits}
-use Rattle.round_trip.specs.RoundTrip.{mostWords}
 use Rattle.round_trip.specs.Theorems.{words-most}
 use Rattle.flat.specs.declared.FlatTextAnswer.{FlatTextAnswer}
 use Rattle.flat.specs.Flat.{flatTextAnswer}
 use Rattle.flat.specs.FlatPromises.{FlatTextRead}
 
-module _ (text : List ℕ) (w n : ℕ) (words-room : mostWords ≤ w) (numbers-room : length text / 9 ≤ n) where
+-- of a number in a text: a comma and eight digits
+abbrev pub numberBytes : ℕ
+numberBytes = 9
+
+module _ (text : List ℕ) (w n : ℕ) (words-room : maxPlan ≤ w) (numbers-room : length text / numberBytes ≤ n) where
   never-short : (x : Reading) → readFigure text ≡ x → flatTextAnswer (textVerdict x w n) .number ≡ 12 → ⊥
   unfolding textVerdict flatTextAnswer
   never-short (bad m) t e = omega (arith, e)
   never-short (got ws bs rest m) t e =
-      let fits : 2 * length ws + 9 * length bs ≤ length text = figure-fits text ws bs rest m t in
-      let few : length ws ≤ mostWords = words-most text ws bs rest m t in
+      let fits : 2 * length ws + numberBytes * length bs ≤ length text = figure-fits text ws bs rest m t in
+      let few : length ws ≤ maxPlan = words-most text ws bs rest m t in
       let z : _≡_ {A = ℕ} 0 12 = rw (le-leb (length ws) w (omega arith), le-leb (length bs) n (omega arith)) at e in
       omega (arith, z)
 
 pub room-enough : (text planOld planNew : List ℕ) (numbersOld numbersNew : List Float) (r : FlatTextAnswer) → FlatTextRead text planOld planNew numbersOld numbersNew r
-    → mostWords ≤ length planOld → length text / 9 ≤ length numbersOld → r .number ≡ 12 → ⊥
+    → maxPlan ≤ length planOld → length text / numberBytes ≤ length numbersOld → r .number ≡ 12 → ⊥
 room-enough text planOld planNew numbersOld numbersNew r done w n e =
     never-short text (length planOld) (length numbersOld) w n (readFigure text) refl (sym (ap (λ (a : FlatTextAnswer). a .number) (done .answer)) ∙ e)

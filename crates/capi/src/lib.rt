@@ -1,5 +1,6 @@
 // The static library: the calls for hosts in C and Rust. A player stays in the host's memory, as a flat struct. No call asks anything of its content.
 use flat::FlatAnswer;
+use flat::FlatParts;
 use flat::FlatPlayer;
 use flat::FlatTextAnswer;
 use flat::flat_frame;
@@ -9,13 +10,15 @@ use flat::started;
 use flat::updated;
 use flat::with_speed;
 use layout::JOINT_COUNT_AT;
+use layout::MAX_PLAN;
 use layout::word;
+use model::FrameKind;
 use skeleton::output_at;
 ghost use mathlib.Core.Path.{_≡_};
 ghost use Prim.Native.Nat.{_/_};
-ghost use Rattle.model.specs.Plan.{jointCount, outputAt};
-ghost use Rattle.model.specs.Run.{FrameKind, kindOf};
-ghost use Rattle.round_trip.specs.RoundTrip.{mostWords};
+ghost use Rattle.model.specs.declared.FrameKind.the-variants as Kind;
+ghost use Rattle.model.specs.Plan.{maxPlan, jointCount, outputAt};
+ghost use Rattle.capi.specs.Theorems.{numberBytes};
 ghost use Rattle.flat.specs.FlatPromises.{FlatStarted, FlatUpdated, FlatSpeedSet, FlatParameterSet, FlatFramed, FlatTextRead};
 
 // ---- start, update, speed, set
@@ -63,40 +66,42 @@ pub extern "C" fn gentianlathe_set(
 // ---- frame and page frame: the host's arrays are lent where they lie
 
 fn frame_in_place(
-    is_page: bool,
+    kind: FrameKind,
     plan: &[u16],
     numbers: &[f32],
     player: &mut FlatPlayer,
     ext: f64,
     output: &mut [f32],
 ) -> FlatAnswer
-    ensures { λ r. ⌜ FlatFramed (kindOf «is_page») (now (plan .entry)) (now (numbers .entry)) (now (player .entry)) ext (now (output .entry)) (now (output .exit)) (now (player .exit)) r ⌝ }
+    ensures { λ r. ⌜ FlatFramed kind (now (plan .entry)) (now (numbers .entry)) (now (player .entry)) ext (now (output .entry)) (now (output .exit)) (now (player .exit)) r ⌝ }
 {
+    let parts = FlatParts {
+        clock: (*player).clock,
+        speed: (*player).speed,
+        state: (*player).state,
+        running: (*player).running,
+        start: (*player).start,
+        target: (*player).target,
+        duration: (*player).duration,
+    };
     let frame = flat_frame(
-        is_page,
+        kind,
         plan,
         numbers,
-        (*player).clock,
-        (*player).speed,
-        (*player).state,
-        (*player).running,
-        (*player).start,
-        (*player).target,
-        (*player).duration,
+        parts,
         &(*player).parameters,
         &mut (*player).instances,
         ext,
         output,
     );
-    (*player).state = frame.state;
-    (*player).running = frame.running;
-    (*player).start = frame.start;
-    (*player).target = frame.target;
-    (*player).duration = frame.duration;
-    FlatAnswer {
-        number: frame.number,
-        place: frame.place,
-    }
+    (*player).clock = frame.parts.clock;
+    (*player).speed = frame.parts.speed;
+    (*player).state = frame.parts.state;
+    (*player).running = frame.parts.running;
+    (*player).start = frame.parts.start;
+    (*player).target = frame.parts.target;
+    (*player).duration = frame.parts.duration;
+    frame.answer
 }
 
 #[no_mangle]
@@ -107,9 +112,9 @@ pub extern "C" fn gentianlathe_frame(
     ext: f64,
     output: &mut [f32],
 ) -> FlatAnswer
-    ensures { λ r. ⌜ FlatFramed FrameKind.ordinary (now (plan .entry)) (now (numbers .entry)) (now (player .entry)) ext (now (output .entry)) (now (output .exit)) (now (player .exit)) r ⌝ }
+    ensures { λ r. ⌜ FlatFramed Kind.Ordinary (now (plan .entry)) (now (numbers .entry)) (now (player .entry)) ext (now (output .entry)) (now (output .exit)) (now (player .exit)) r ⌝ }
 {
-    frame_in_place(false, plan, numbers, player, ext, output)
+    frame_in_place(FrameKind::Ordinary, plan, numbers, player, ext, output)
 }
 
 #[no_mangle]
@@ -120,9 +125,9 @@ pub extern "C" fn gentianlathe_page_frame(
     ext: f64,
     output: &mut [f32],
 ) -> FlatAnswer
-    ensures { λ r. ⌜ FlatFramed FrameKind.page (now (plan .entry)) (now (numbers .entry)) (now (player .entry)) ext (now (output .entry)) (now (output .exit)) (now (player .exit)) r ⌝ }
+    ensures { λ r. ⌜ FlatFramed Kind.Page (now (plan .entry)) (now (numbers .entry)) (now (player .entry)) ext (now (output .entry)) (now (output .exit)) (now (player .exit)) r ⌝ }
 {
-    frame_in_place(true, plan, numbers, player, ext, output)
+    frame_in_place(FrameKind::Page, plan, numbers, player, ext, output)
 }
 
 // ---- text
@@ -139,6 +144,9 @@ pub extern "C" fn gentianlathe_read_text(
 }
 
 // ---- sizes
+
+// Of a number in a text: a comma and eight digits.
+const NUMBER_BYTES: usize = 9;
 
 // In bytes, for a host to hold its own struct to.
 #[no_mangle]
@@ -159,15 +167,15 @@ pub extern "C" fn gentianlathe_output_length(plan: &[u16]) -> usize
 // No text has more words.
 #[no_mangle]
 pub extern "C" fn gentianlathe_most_words() -> usize
-    ensures { λ r. ⌜ r ≡ mostWords ⌝ }
+    ensures { λ r. ⌜ r ≡ maxPlan ⌝ }
 {
-    2869
+    MAX_PLAN
 }
 
-// No text of so many bytes has more numbers: each takes nine.
+// No text of so many bytes has more numbers.
 #[no_mangle]
 pub extern "C" fn gentianlathe_most_numbers(text_length: usize) -> usize
-    ensures { λ r. ⌜ r ≡ «text_length» / 9 ⌝ }
+    ensures { λ r. ⌜ r ≡ «text_length» / numberBytes ⌝ }
 {
-    text_length / 9
+    text_length / NUMBER_BYTES
 }
