@@ -7,57 +7,59 @@ use lib.ListN.{length, take, drop, length-append, length-map}
 use lib.Seq.{take-append-seam}
 use lib.Ieee.{Float, binary32, ofBits}
 use borrow.Author.Tests.{lt-ltb, le-ltb, le-leb}
+use Rattle.model.specs.declared.FrameKind.the-variants.{Ordinary}
 use Rattle.model.specs.declared.Outcome.{Outcome}
 use Rattle.model.specs.declared.Player.{Player}
+use Rattle.model.specs.declared.Refusal.{Refusal}
 use Rattle.model.specs.declared.Answer.the-variants as answer
 use Rattle.model.specs.declared.TextAnswer.{TextAnswer}
 use Rattle.model.specs.declared.TextAnswer.the-variants as text-answer
 use Rattle.model.specs.Numbers.{0f}
 use Rattle.model.specs.Answers.{accepted, values, _then_, require, unlessRefused}
-use Rattle.model.specs.Plan.{jointCountAt, word, jointCount, stateCount, initialState, outputAt}
+use Rattle.model.specs.Plan.{maxJoints, maxPlan, maxOutput, jointCountAt, word, jointCount, stateCount, initialState, outputAt}
 use Rattle.model.specs.Controller.{blank, fresh, isTargetBelow, frameVerdict}
 use Rattle.model.specs.Skeleton.{written}
 use Rattle.model.specs.Text.{Reading, bad, got, readFigure, floatsOf, overwritten, readWords, readFloats, textValues, textVerdict, whenAccepted}
 use Rattle.model.specs.Text as text
-use Rattle.model.specs.Run.{startVerdict, startPlayer, ordinary, frameMatrices}
-use Rattle.model.specs.Program.{refusedLine, joined, jointLine, played, printedFrom, maxText, printed}
+use Rattle.model.specs.Run.{startVerdict, startPlayer, frameMatrices}
+use Rattle.model.specs.Program.{refusedLine, jointLine, played, printedFrom, maxText, maxNumbers, printed}
 use Rattle.model.specs.Promises.{Started, Framed, TextRead}
 use Rattle.model.specs.Laws.Output.{matrix-at, frame-length}
 use Rattle.model.specs.Laws.Passed.{initial-below, few-joints}
 use Rattle.model.specs.Laws.Reading.{figure-fits}
+use Rattle.printing.specs.Written.{jointLines}
 use Rattle.printing.proofs.Laws.{joined-same}
-use Rattle.round_trip.specs.RoundTrip.{mostWords}
 use Rattle.round_trip.specs.Theorems.{words-most}
 
 -- ---- one frame
 
 module _ (plan : List ℕ) (numbers : List Float) (started : startVerdict plan numbers ≡ accepted) where
-  pub few-shown : word plan jointCountAt ≤ 64
+  pub few-shown : word plan jointCountAt ≤ maxJoints
   unfolding startVerdict jointCount
   few-shown = few-joints plan (length numbers) started
 
-  -- no frame of a figure that started is refused, if there is room for 64 joints
-  fresh-accepted : (n : ℕ) → 1024 ≤ n → frameVerdict plan numbers (fresh plan numbers) n ≡ accepted
+  -- no frame of a figure that started is refused, if there is room for all joints
+  fresh-accepted : (n : ℕ) → maxOutput ≤ n → frameVerdict plan numbers (fresh plan numbers) n ≡ accepted
   unfolding startVerdict frameVerdict jointCount fresh blank isTargetBelow _then_ require
   fresh-accepted n room =
       let below = lt-ltb (initialState plan) (stateCount plan) (initial-below plan (length numbers) started) in
       rw (started, below, le-leb (outputAt (jointCount plan)) n (omega (arith, few-shown)))
 
   -- the lines of that frame's floats are what is to be printed
-  pub frame-lines : (p : Player) (count : ℕ) (old new : List Float) (r : Outcome) → p ≡ fresh plan numbers → count ≡ word plan jointCountAt → 1024 ≤ length old
-      → Framed ordinary plan numbers p 0f old new r → joined count (λ j. jointLine j (take 16 (drop (16 * j) new))) ≡ played plan numbers accepted
+  pub frame-lines : (p : Player) (count : ℕ) (old new : List Float) (r : Outcome) → p ≡ fresh plan numbers → count ≡ word plan jointCountAt → maxOutput ≤ length old
+      → Framed Ordinary plan numbers p 0f old new r → jointLines count new ≡ played plan numbers accepted
   unfolding played jointCount written unlessRefused
   frame-lines p count old new r e n room done =
-      let ms = frameMatrices plan numbers (fresh plan numbers) 0f ordinary in
+      let ms = frameMatrices plan numbers (fresh plan numbers) 0f Ordinary in
       let o : new ≡ written plan ms old = rw (e, fresh-accepted (length old) room) at (done .output) in
-      rw (n, o) (joined-same (jointCount plan) _ _ (λ j h. ap (jointLine j) (matrix-at ms _ j (omega (arith, frame-length plan numbers (fresh plan numbers) 0f ordinary)))))
+      rw (n, o) (joined-same (jointCount plan) _ _ (λ j h. ap (jointLine j) (matrix-at ms _ j (omega (arith, frame-length plan numbers (fresh plan numbers) 0f Ordinary)))))
 
 -- ---- a start
 
 module _ (plan : List ℕ) (numbers : List Float) (r : Outcome) (done : Started plan numbers r) where
-  pub refusal-played : (n p : ℕ) → r .answer ≡ answer.Refused n p → refusedLine n p ≡ played plan numbers (startVerdict plan numbers)
+  pub refusal-played : (f : Refusal) → r .answer ≡ answer.Refused f → refusedLine (f .number) (f .place) ≡ played plan numbers (startVerdict plan numbers)
   unfolding values played
-  refusal-played n p e = rw (← done .answer, e)
+  refusal-played f e = rw (← done .answer, e)
 
   module _ (e : r .answer ≡ answer.Accepted) where
     pub start-accepted : startVerdict plan numbers ≡ accepted
@@ -97,7 +99,7 @@ pub record FigureRead (s plan : List ℕ) (numbers : List Float) (words count : 
   pub lines : played (take words plan) (take count numbers) (startVerdict (take words plan) (take count numbers)) ≡ printed s
 
 module _ (s planOld planNew : List ℕ) (numbersOld numbersNew : List Float) (r : TextAnswer) (done : TextRead s planOld planNew numbersOld numbersNew r)
-    (short : length s ≤ maxText) (words-room : mostWords ≤ length planOld) (numbers-room : 7281 ≤ length numbersOld) where
+    (short : length s ≤ maxText) (words-room : maxPlan ≤ length planOld) (numbers-room : maxNumbers ≤ length numbersOld) where
   printed-short : printed s ≡ printedFrom (readFigure s)
   unfolding printed
   printed-short = rw (le-ltb maxText (length s) short)
@@ -108,19 +110,19 @@ module _ (s planOld planNew : List ℕ) (numbersOld numbersNew : List Float) (r 
   unfolding textVerdict
   room-enough ws bs rest n e =
       let fits : 2 * length ws + 9 * length bs ≤ length s = figure-fits s ws bs rest n e in
-      let few : length ws ≤ mostWords = words-most s ws bs rest n e in
+      let few : length ws ≤ maxPlan = words-most s ws bs rest n e in
       rw (e, le-leb (length ws) (length planOld) (omega arith), le-leb (length bs) (length numbersOld) (omega arith))
 
-  pub refusal-printed : (n p : ℕ) → r ≡ text-answer.Refused n p → refusedLine n p ≡ printed s
+  pub refusal-printed : (f : Refusal) → r ≡ text-answer.Refused f → refusedLine (f .number) (f .place) ≡ printed s
   unfolding textValues textVerdict printedFrom
-  refusal-printed n p e = rw printed-short (go (readFigure s) refl)
+  refusal-printed f e = rw printed-short (go (readFigure s) refl)
     where
-      go : (x : Reading) → readFigure s ≡ x → refusedLine n p ≡ printedFrom x
+      go : (x : Reading) → readFigure s ≡ x → refusedLine (f .number) (f .place) ≡ printedFrom x
       go (bad m) t =
-          let v : text.refused n p 0 ≡ text.refused 11 m 0 = rw (e, t) at (done .answer) in
+          let v : text.refused (f .number) (f .place) 0 ≡ text.refused 11 m 0 = rw (e, t) at (done .answer) in
           cc
       go (got ws bs rest m) t =
-          let v : text.refused n p 0 ≡ text.accepted (length ws) (length bs) = rw e at (done .answer) ∙ room-enough ws bs rest m t in
+          let v : text.refused (f .number) (f .place) 0 ≡ text.accepted (length ws) (length bs) = rw e at (done .answer) ∙ room-enough ws bs rest m t in
           cc
 
   pub figure-read : (words count : ℕ) → r ≡ text-answer.Accepted words count → FigureRead s planNew numbersNew words count

@@ -2,10 +2,16 @@
 use controller::frame;
 use controller::start;
 use layout::JOINT_COUNT_AT;
+use layout::MAX_PLAN;
 use layout::word;
 use model::Answer;
 use model::Player;
+use model::Refusal;
 use model::TextAnswer;
+use model::limits::MAX_NUMBERS;
+use model::limits::MAX_OUTPUT;
+use model::limits::MAX_TEXT;
+use printing::MAX_PRINTED;
 use printing::put_joints;
 use printing::put_refusal;
 ghost use mathlib.Core.Path.{_≡_};
@@ -15,26 +21,27 @@ ghost use Rattle.model.specs.Answers.{accepted};
 ghost use Rattle.model.specs.Controller.{fresh};
 ghost use Rattle.model.specs.Run.{startVerdict};
 ghost use Rattle.model.specs.Text.{overwritten};
-ghost use Rattle.model.specs.Program.{played, printed};
+ghost use Rattle.model.specs.Program.{played, maxText, printed};
+ghost use Rattle.printing.specs.Sizes.{maxPrinted};
 
 // One frame with ext 0 of a figure that was started.
 fn show(plan: &[u16], numbers: &[f32], player: Player, out: &mut [u8]) -> usize
-    requires { ⌜ (startVerdict (now plan) (now numbers) ≡ accepted) × (player ≡ fresh (now plan) (now numbers)) × (9792 ≤ length (now out)) ⌝ }
+    requires { ⌜ (startVerdict (now plan) (now numbers) ≡ accepted) × (player ≡ fresh (now plan) (now numbers)) × (maxPrinted ≤ length (now out)) ⌝ }
     ensures { λ r. ⌜ (r ≡ length (played (now (plan .entry)) (now (numbers .entry)) accepted)) × (now (out .exit) ≡ overwritten (played (now (plan .entry)) (now (numbers .entry)) accepted) (now (out .entry))) ⌝ }
 {
-    let mut floats = [0.0f32; 1024];
+    let mut floats = [0.0f32; MAX_OUTPUT];
     frame(plan, numbers, player, 0.0, &mut floats);
     put_joints(out, 0, word(plan, JOINT_COUNT_AT), &floats)
 }
 
 fn play(plan: &[u16], numbers: &[f32], out: &mut [u8]) -> usize
-    requires { ⌜ 9792 ≤ length (now out) ⌝ }
+    requires { ⌜ maxPrinted ≤ length (now out) ⌝ }
     ensures { λ r. ⌜ (r ≡ length (played (now (plan .entry)) (now (numbers .entry)) (startVerdict (now (plan .entry)) (now (numbers .entry))))) × (now (out .exit) ≡ overwritten (played (now (plan .entry)) (now (numbers .entry)) (startVerdict (now (plan .entry)) (now (numbers .entry)))) (now (out .entry))) ⌝ }
 {
     let begun = start(plan, numbers);
     let started = begun.answer;
     match started {
-        Answer::Refused { number, place } => put_refusal(out, 0, number, place),
+        Answer::Refused(refusal) => put_refusal(out, 0, refusal),
         Answer::Accepted => {
             let player = begun.player;
             show(plan, numbers, player, out)
@@ -44,14 +51,14 @@ fn play(plan: &[u16], numbers: &[f32], out: &mut [u8]) -> usize
 
 // The slices hold the figure of any text that is not too long: the limits allow no more words, and each number takes nine bytes of the text.
 fn read_and_play(text: &[u8], out: &mut [u8]) -> usize
-    requires { ⌜ (length (now text) ≤ 65536) × (9792 ≤ length (now out)) ⌝ }
+    requires { ⌜ (length (now text) ≤ maxText) × (maxPrinted ≤ length (now out)) ⌝ }
     ensures { λ r. ⌜ (r ≡ length (printed (now (text .entry)))) × (now (out .exit) ≡ overwritten (printed (now (text .entry))) (now (out .entry))) ⌝ }
 {
-    let mut plan = [0u16; 2869];
-    let mut numbers = [0.0f32; 7281];
+    let mut plan = [0u16; MAX_PLAN];
+    let mut numbers = [0.0f32; MAX_NUMBERS];
     let read = text::read(text, &mut plan, &mut numbers);
     match read {
-        TextAnswer::Refused { number, place } => put_refusal(out, 0, number, place),
+        TextAnswer::Refused(refusal) => put_refusal(out, 0, refusal),
         TextAnswer::Accepted {
             words,
             numbers: count,
@@ -60,12 +67,19 @@ fn read_and_play(text: &[u8], out: &mut [u8]) -> usize
 }
 
 // What the program prints for a text, in the front of `out`, and how many bytes that is.
-pub fn answer(text: &[u8], out: &mut [u8; 9792]) -> usize
+pub fn answer(text: &[u8], out: &mut [u8; MAX_PRINTED]) -> usize
     ensures { λ r. ⌜ (r ≤ length (now (out .exit))) × (r ≡ length (take r (now (out .exit)))) ⌝ }
     ensures { λ r. ⌜ take r (now (out .exit)) ≡ printed (now (text .entry)) ⌝ }
 {
-    if text.len() > 65536 {
-        return put_refusal(out, 0, 13, 65536);
+    if text.len() > MAX_TEXT {
+        return put_refusal(
+            out,
+            0,
+            Refusal {
+                number: 13,
+                place: MAX_TEXT,
+            },
+        );
     }
     read_and_play(text, out)
 }

@@ -16,7 +16,7 @@ returns : tie.Need-returns
 returns c =
     let p = c .before .before in
     let t = p .before .before .before in
-    rw (refusal-played _ _ _ (t .before .before .start .ensures) _ _ (t .started .given .1)) at (text-written (p .put-refusal .ensures .0) (search needs))
+    rw (refusal-played _ _ _ (t .before .before .start .ensures) _ (t .started .given .1)) at (text-written (p .put-refusal .ensures .0) (search needs))
 
 returns-2 : tie.Need-returns-2
 returns-2 c =

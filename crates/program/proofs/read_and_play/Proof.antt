@@ -34,7 +34,7 @@ returns c =
     let t = p .before .before .before in
     let r = t .before .before .before .before in
     let a = r .before .before .before .before .before in
-    rw (refusal-printed _ _ _ _ _ _ (r .read .ensures) (a .pre .0) (search needs) (search needs) _ _ (t .read2 .given .1)) at (text-written (p .put-refusal .ensures .0) (search needs))
+    rw (refusal-printed _ _ _ _ _ _ (r .read .ensures) (a .pre .0) (search needs) (search needs) _ (t .read2 .given .1)) at (text-written (p .put-refusal .ensures .0) (search needs))
 
 returns-2 : tie.Need-returns-2
 returns-2 c =

@@ -3,12 +3,13 @@ use Prim.Native.Nat.{_≤_}
 use native.Mathlib.Omega.{arith}
 use lib.Ieee.{ofBits}
 use borrow.Author.Needs.{needs}
+use Rattle.model.specs.Plan.{maxJoints}
 use Rattle.printing.proofs.Laws.{text-written}
 use Rattle.program.proofs.Laws.{few-shown, frame-lines}
 use Rattle.program.proofs.show.Statement.{statement}
 use Rattle.program.proofs.show.Tie as tie
 
-few-joints : (c : tie.After-word) → c .word .result ≤ 64
+few-joints : (c : tie.After-word) → c .word .result ≤ maxJoints
 few-joints c = rw (c .word .ensures .0) (few-shown _ _ (c .before .before .before .before .before .before .before .before .pre .0))
 
 put-joints-requires : tie.Need-put-joints-requires
