@@ -4,10 +4,13 @@ use input::read_input;
 use libc::STDERR_FILENO;
 use libc::STDIN_FILENO;
 use libc::STDOUT_FILENO;
+use model::limits::MAX_TEXT;
+use printing::MAX_PRINTED;
 use program::answer;
 
 fn main() {
-    let mut text = [0u8; 65537];
+    // A byte more, so that a longer text is noticed.
+    let mut text = [0u8; MAX_TEXT + 1];
     let input = read_input(STDIN_FILENO, &mut text);
     if input.failed {
         io::write_all(
@@ -17,7 +20,7 @@ fn main() {
         return;
     }
     let count = input.count;
-    let mut out = [0u8; 9792];
+    let mut out = [0u8; MAX_PRINTED];
     let length = answer(&text[..count], &mut out);
     if !io::write_all(STDOUT_FILENO, &out[..length]) {
         io::write_all(

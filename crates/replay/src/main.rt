@@ -1,7 +1,9 @@
 // The program `replay FIGURE CALLS`: reads a figure's text and a list of calls from two files, and prints what each call shows.
+use calls::MAX_LIST;
 use input::Input;
 use input::read_input;
 use libc::STDERR_FILENO;
+use model::limits::MAX_TEXT;
 use replay_print::print_replay;
 ghost use Prim.Native.Nat.{_≤_};
 ghost use lib.ListN.{length};
@@ -36,7 +38,7 @@ fn read_file(i: usize, text: &mut [u8]) -> Input
 }
 
 fn replay(figure: &[u8], calls: &[u8]) {
-    if calls.len() > 262144 {
+    if calls.len() > MAX_LIST {
         io::write_all(
             STDERR_FILENO,
             b"replay: the list of calls is longer than 262144 bytes\n",
@@ -51,6 +53,7 @@ fn replay(figure: &[u8], calls: &[u8]) {
     }
 }
 
+// The buffers hold a byte more than is read, so that a longer file is noticed.
 fn main() {
     if os::arg_count() != 3 {
         io::write_all(
@@ -59,12 +62,12 @@ fn main() {
         );
         return;
     }
-    let mut figure = [0u8; 65537];
+    let mut figure = [0u8; MAX_TEXT + 1];
     let figure_read = read_file(1, &mut figure);
     if figure_read.failed {
         return;
     }
-    let mut calls = [0u8; 262145];
+    let mut calls = [0u8; MAX_LIST + 1];
     let calls_read = read_file(2, &mut calls);
     if calls_read.failed {
         return;

@@ -1,15 +1,24 @@
 // Prints what replaying a list of calls on a figure shows. The work is `replay_core`'s, on slices; here it is written to standard output, part by part.
 use calls::check_calls;
+use layout::MAX_PLAN;
 use libc::STDOUT_FILENO;
 use model::Player;
+use model::Refusal;
 use model::TextAnswer;
+use model::limits::MAX_NUMBERS;
+use model::limits::MAX_TEXT;
+use printing::REFUSAL_SIZE;
 use printing::put_refusal;
+use replay_core::MAX_REPORT;
 use replay_core::begin;
 use replay_core::finish;
 use replay_core::perform;
 use replay_core::put_malformed;
 ghost use Prim.Native.Nat.{_≤_};
 ghost use lib.ListN.{length};
+
+// Some reports are printed at once.
+const BUFFER_SIZE: usize = 8 * MAX_REPORT;
 
 // The bytes below `size`; false where they cannot be written.
 fn write_front(bytes: &[u8], size: usize) -> bool
@@ -19,33 +28,33 @@ fn write_front(bytes: &[u8], size: usize) -> bool
 }
 
 // The same for an array that was lent to a callee: of a parameter a proof knows the length by its type, of a lent array it does not.
-fn write_array_front(bytes: &[u8; 16384], size: usize) -> bool
+fn write_array_front(bytes: &[u8; MAX_REPORT], size: usize) -> bool
     requires { ⌜ size ≤ length (now bytes) ⌝ }
 {
     write_front(bytes, size)
 }
 
-fn print_refusal(number: usize, place: usize) -> bool {
-    let mut out = [0u8; 64];
-    let size = put_refusal(&mut out, 0, number, place);
+fn print_refusal(refusal: Refusal) -> bool {
+    let mut out = [0u8; REFUSAL_SIZE];
+    let size = put_refusal(&mut out, 0, refusal);
     write_front(&out, size)
 }
 
 fn print_malformed(line: usize) -> bool {
-    let mut out = [0u8; 16384];
+    let mut out = [0u8; MAX_REPORT];
     let size = put_malformed(line, &mut out);
     write_array_front(&out, size)
 }
 
 fn print_rest(player: Player) -> bool {
-    let mut out = [0u8; 16384];
+    let mut out = [0u8; MAX_REPORT];
     let size = finish(player, &mut out);
     write_array_front(&out, size)
 }
 
 // The calls, as many at a time as the buffer holds reports of.
 fn print_calls(plan: &[u16], numbers: &[f32], calls: &[u8], lines: usize, player: Player) -> bool {
-    let mut out = [0u8; 65536];
+    let mut out = [0u8; BUFFER_SIZE];
     let mut moved = player;
     let mut at = 0;
     let mut left = lines;
@@ -66,7 +75,7 @@ fn print_list(plan: &[u16], numbers: &[f32], calls: &[u8]) -> bool {
     if checked.malformed > 0 {
         return print_malformed(checked.malformed);
     }
-    let mut out = [0u8; 16384];
+    let mut out = [0u8; MAX_REPORT];
     let begun = begin(plan, numbers, &mut out);
     if !write_array_front(&out, begun.length) {
         return false;
@@ -77,14 +86,17 @@ fn print_list(plan: &[u16], numbers: &[f32], calls: &[u8]) -> bool {
 
 // The slices hold the figure of any text that is not too long, as those of the program do. False where standard output cannot be written.
 pub fn print_replay(figure: &[u8], calls: &[u8]) -> bool {
-    if figure.len() > 65536 {
-        return print_refusal(13, 65536);
+    if figure.len() > MAX_TEXT {
+        return print_refusal(Refusal {
+            number: 13,
+            place: MAX_TEXT,
+        });
     }
-    let mut plan = [0u16; 2869];
-    let mut numbers = [0.0f32; 7281];
+    let mut plan = [0u16; MAX_PLAN];
+    let mut numbers = [0.0f32; MAX_NUMBERS];
     let read = text::read(figure, &mut plan, &mut numbers);
     match read {
-        TextAnswer::Refused { number, place } => print_refusal(number, place),
+        TextAnswer::Refused(refusal) => print_refusal(refusal),
         TextAnswer::Accepted {
             words,
             numbers: count,
