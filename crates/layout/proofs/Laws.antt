@@ -11,11 +11,11 @@ use mir.Syntax.{w64}
 use mir.Val.{Fits}
 use Rattle.model.specs.Answers.{accepted}
 use Rattle.model.specs.Text.{maxWord}
-use Rattle.model.specs.Plan.{maxNodes, word, jointCount, clipCount, stateCount, sampleCountAt, afterNodes, afterTransitions, stateAt, nodeCount, kindAt, transitionCountAt, transitionCount, conditionParameterAt, total, clipNodesBefore, transitionsBefore, numberAt, Value, Duration}
+use Rattle.model.specs.Plan.{maxNodes, word, jointCount, clipCount, stateCount, afterNodes, afterTransitions, stateAt, nodeCount, kindAt, transitionCountAt, transitionCount, conditionParameterAt, total, clipNodesBefore, transitionsBefore, numberAt, Value, Duration}
 use Rattle.model.specs.Check.{checkState}
 use Rattle.model.specs.Laws.State.{node-there, transition-there, transition-count-there, few-nodes, few-transitions}
 use Rattle.model.specs.Laws.Trees.{clip-nodes-divided}
-use Rattle.model.specs.Laws.Passed.{sample-count-there, state-passed, few-clips, few-states, few-transitions-before, few-clip-nodes-before}
+use Rattle.model.specs.Laws.Passed.{state-passed, few-clips, few-states, few-transitions-before, few-clip-nodes-before}
 use Rattle.layout.specs.declared.Layout.{Layout}
 use Rattle.layout.specs.declared.StateLayout.{StateLayout}
 use Rattle.layout.specs.Layout.{Passes, InPlan, layoutOf, stateLayout}
@@ -47,13 +47,6 @@ module _ (plan : List ℕ) {l : Layout} (e : l ≡ layoutOf plan) where
   pub states-found : l .states ≡ stateCount plan
   unfolding layoutOf
   states-found = ap (λ l. l .states) e
-
-  pub sample-count-place : (c : ℕ) → 5 + l .joints + c ≡ sampleCountAt plan c
-  unfolding sampleCountAt
-  sample-count-place c = rw joints-found
-
-  pub sample-count-read : Passes plan → (c : ℕ) → c < clipCount plan → 5 + l .joints + c < length plan
-  sample-count-read ok c h = rw (sample-count-place c) (sample-count-there plan (ok .numbers) (ok .passed) c h)
 
 -- ---- a state
 

@@ -13,7 +13,7 @@ ghost use Prim.Native.Nat.{ℕ, _+_, _*_, _<_, _≤_};
 ghost use lib.ListN.{length, getD};
 ghost use lib.Ieee.{nan};
 ghost use Rattle.model.specs.Text.{maxWord};
-ghost use Rattle.model.specs.Plan.{maxJoints, maxClips, maxSamples, root, word, parentAt, parent, sampleCount, samplesBefore, clipCount, jointCount, stateCount, number, Rate};
+ghost use Rattle.model.specs.Plan.{maxJoints, maxClips, maxSamples, root, word, parentAt, parent, sampleCountAt, sampleCount, samplesBefore, clipCount, jointCount, stateCount, number, Rate};
 ghost use Rattle.layout.specs.Layout.{layoutOf, stateLayout, nodeOf, conditionOf, numbersOf, Passes, InPlan, HasTransition};
 
 // The header's words, and the first parent.
@@ -116,12 +116,20 @@ pub fn is_root(parent: usize) -> bool
     parent == ROOT
 }
 
+// Where clip c's sample count stands, behind so many joints' parents. The first state begins where that of one more clip would stand.
+pub fn sample_count_at(joints: usize, c: usize) -> usize
+    requires { ⌜ (joints ≤ maxWord) × (c ≤ maxWord) ⌝ }
+    ensures { λ r. ⌜ ((plan : List ℕ) → joints ≡ jointCount plan → r ≡ sampleCountAt plan c) ⌝ }
+{
+    PARENTS_AT + joints + c
+}
+
 // Of a clip that the plan has.
 pub fn sample_count(plan: &[u16], layout: Layout, c: usize) -> usize
     requires { ⌜ Passes (now plan) × (layout ≡ layoutOf (now plan)) × (c < clipCount (now plan)) ⌝ }
     ensures { λ r. ⌜ r ≡ sampleCount (now (plan .entry)) c ⌝ }
 {
-    word_there(plan, PARENTS_AT + layout.joints + c)
+    word_there(plan, sample_count_at(layout.joints, c))
 }
 
 // How many samples the clips before c have. The check asks too, before it knows that the plan passes.
@@ -132,7 +140,7 @@ pub fn samples_before(plan: &[u16], joints: usize, c: usize) -> usize
     let mut sum = 0;
     let mut k = 0;
     while k < c {
-        sum += word(plan, PARENTS_AT + joints + k);
+        sum += word(plan, sample_count_at(joints, k));
         k += 1;
     }
     sum

@@ -10,9 +10,9 @@ use layout::INITIAL_STATE_AT;
 use layout::JOINT_COUNT_AT;
 use layout::Layout;
 use layout::PARAMETER_COUNT_AT;
-use layout::PARENTS_AT;
 use layout::STATE_COUNT_AT;
 use layout::TRANSITION_NUMBERS;
+use layout::sample_count_at;
 use layout::samples_before;
 use layout::word;
 use model::Answer;
@@ -78,7 +78,7 @@ fn check_words(plan: &[u16]) -> States
         parameters: word(plan, PARAMETER_COUNT_AT),
         states: word(plan, STATE_COUNT_AT),
     };
-    check_states(plan, PARENTS_AT + joints + clips, counts)
+    check_states(plan, sample_count_at(joints, clips), counts)
 }
 
 // The layout of a plan whose words passed, for so many transitions.
@@ -93,7 +93,7 @@ fn laid_out(plan: &[u16], transitions: usize) -> Layout
         clips: clips,
         states: word(plan, STATE_COUNT_AT),
         initial: word(plan, INITIAL_STATE_AT),
-        states_at: PARENTS_AT + joints + clips,
+        states_at: sample_count_at(joints, clips),
         poses_at: clips + TRANSITION_NUMBERS * transitions,
     }
 }

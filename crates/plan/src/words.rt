@@ -6,6 +6,7 @@ use layout::PARAMETER_COUNT_AT;
 use layout::PARENTS_AT;
 use layout::STATE_COUNT_AT;
 use layout::is_root;
+use layout::sample_count_at;
 use layout::word;
 use model::Answer;
 use model::limits::MAX_CLIPS;
@@ -119,7 +120,7 @@ pub fn check_sample_counts(plan: &[u16], joints: usize, clips: usize) -> Answer
 {
     let mut c = 0;
     while c < clips {
-        let count = word_within(plan, 2, PARENTS_AT + joints + c, 1, MAX_SAMPLES);
+        let count = word_within(plan, 2, sample_count_at(joints, c), 1, MAX_SAMPLES);
         let Answer::Accepted = count else {
             return count;
         };

@@ -1,20 +1,27 @@
 -- `layout::sample_count` meets its contract: the check has seen that the word is there. Assumes nothing.
-use Prim.Native.Nat.{_+_, _<_}
-use mathlib.Core.Path.{ap, _∙_}
+use mathlib.Core.Path.{_≡_, ap, _∙_}
 use native.Mathlib.Omega.{arith}
-use lib.ListN.{length}
-use Rattle.model.specs.Plan.{word, sampleCount}
-use Rattle.layout.proofs.Laws.{sample-count-place, sample-count-read}
+use Rattle.model.specs.Plan.{word, sampleCountAt, sampleCount}
+use Rattle.model.specs.Laws.Passed.{sample-count-there, few-joints, few-clips}
+use Rattle.layout.proofs.Laws.{joints-found}
 use Rattle.layout.proofs.sample_count.Statement.{statement}
 use Rattle.layout.proofs.sample_count.Tie as tie
 
-there : (c : tie.Start) → 5 + c .args .layout .joints + c .args .c < length (c .args .plan .now)
-there c = sample-count-read _ (c .pre .1) (c .pre .0) _ (c .pre .2)
+sample-count-at-requires : tie.Need-sample-count-at-requires
+sample-count-at-requires c κs =
+    let ok = c .before .pre .0 in
+    let j = joints-found _ (c .before .pre .1) in
+    (omega (arith, j, few-joints _ (ok .numbers) (ok .passed)), omega (arith, few-clips _ (ok .numbers) (ok .passed)))
+
+place : (c : tie.After-sample-count-at) → let s = c .before .before in c .sample-count-at .result ≡ sampleCountAt (s .args .plan .now) (s .args .c)
+place c = let s = c .before .before in c .sample-count-at .ensures _ (joints-found _ (s .pre .1))
+
+word-there-requires : tie.Need-word-there-requires
+word-there-requires c κs = let s = c .before .before in rw (place c) (sample-count-there _ (s .pre .0 .numbers) (s .pre .0 .passed) _ (s .pre .2))
 
 returns : tie.Need-returns
 unfolding sampleCount
-returns c = let s = c .before .before .before in c .word-there .ensures .0 ∙ ap (word (s .args .plan .now)) (sample-count-place _ (s .pre .1) (s .args .c))
+returns c = c .word-there .ensures .0 ∙ ap (word _) (place (c .before))
 
 pub sample-count-spec : {M : Type 1} → statement M
-sample-count-spec =
-    tie.close (tie.spec (λ c. omega (arith, there (c .before .before))) (λ c. omega (arith, there (c .before .before))) (λ c κs. there (c .before .before)) returns)
+sample-count-spec = tie.close (tie.spec sample-count-at-requires word-there-requires returns)

@@ -5,7 +5,7 @@ use mathlib.Core.Path.{_≡_, refl}
 use native.Mathlib.Numerals.{add-one}
 use native.Mathlib.Omega.{arith}
 use Rattle.model.specs.Text.{maxWord}
-use Rattle.model.specs.Plan.{total, samplesBefore, sampleCount, sampleCountAt}
+use Rattle.model.specs.Plan.{total, samplesBefore, sampleCount}
 use Rattle.layout.proofs.samples_before.Statement.{statement}
 use Rattle.layout.proofs.samples_before.Tie as tie
 
@@ -20,12 +20,14 @@ unfolding samplesBefore total
 loop-holds c = (refl, omega arith, omega arith)
 
 loop-again : tie.Need-loop-again Inv-loop μ-loop
-unfolding samplesBefore total sampleCount sampleCountAt
-loop-again c = (rw (add-one, c .before .before .loop .inv .0, c .word .ensures .0, c .before .before .before .before .pre .0), omega arith, omega arith)
+unfolding samplesBefore total sampleCount
+loop-again c =
+    let at = c .before in
+    let l = at .before .before in
+    (rw (add-one, l .loop .inv .0, c .word .ensures .0, at .sample-count-at .ensures _ (l .before .before .pre .0)), omega arith, omega arith)
 
 returns : tie.Need-returns Inv-loop μ-loop
 returns c = let e : c .before .loop .k ≡ c .before .before .before .args .c = omega arith in (rw e at (c .before .loop .inv .0), omega arith)
 
 pub samples-before-spec : {M : Type 1} → statement M
-samples-before-spec =
-    tie.close (tie.spec Inv-loop μ-loop loop-holds (search needs) (search needs) (search needs) (search needs) (search needs) (search needs) loop-again returns)
+samples-before-spec = tie.close (tie.spec Inv-loop μ-loop loop-holds (search needs) (search needs) (search needs) (search needs) (search needs) loop-again returns)

@@ -1,9 +1,11 @@
 -- `plan::check_words` meets its contract: four parts in the definition's order; a header that passed bounds the counts. Assumes nothing.
 use borrow.Author.Needs.{needs}
 use native.Mathlib.Omega.{arith}
-use mathlib.Core.Path.{_≡_}
-use Rattle.model.specs.Answers.{values, _then_, each}
-use Rattle.model.specs.Plan.{jointCount, clipCount, parameterCount, stateCount, sampleCountAt, stateAt, planEnd}
+use Prim.Native.Nat.{ℕ, _+_, _≤_}
+use mathlib.Core.Path.{_≡_, ap, _∙_}
+use mathlib.Core.List.{List}
+use Rattle.model.specs.Answers.{accepted, values, _then_, each}
+use Rattle.model.specs.Plan.{maxJoints, maxClips, parentAt, jointCount, clipCount, parameterCount, stateCount, sampleCountAt, stateAt, planEnd}
 use Rattle.model.specs.Check.{checkHeader, checkParent, checkSampleCount}
 use Rattle.model.specs.Laws.Header as header
 use Rattle.plan.specs.Parts.{checkWords}
@@ -11,6 +13,11 @@ use Rattle.plan.proofs.Laws.{stops, goes, passed}
 use Rattle.plan.proofs.Worded.{words-refuse}
 use Rattle.plan.proofs.check_words.Statement.{statement}
 use Rattle.plan.proofs.check_words.Tie as tie
+
+-- where the first state begins
+states-begin : (plan : List ℕ) → checkHeader plan ≡ accepted → (at : ℕ) → at ≡ sampleCountAt plan (clipCount plan) → at ≤ parentAt maxJoints + maxClips
+unfolding sampleCountAt
+states-begin plan ok at e = omega (arith, e, header.few-joints plan ok, header.few-clips plan ok)
 
 -- the answers to the first two parts and to the first three
 up-to-parents : (c : tie.After-check-parents)
@@ -50,23 +57,25 @@ unfolding checkWords
 returns-3 c = let t = c .before .match3 .keys2 in words-refuse _ _ t (stops _ _ _ t (up-to-sample-counts (c .before .before)))
 
 check-states-requires : tie.Need-check-states-requires
-unfolding jointCount clipCount parameterCount stateCount stateAt sampleCountAt
+unfolding jointCount clipCount parameterCount stateCount stateAt
 check-states-requires c κs =
-    let w3 = c .before in
+    let w4 = c .before in
+    let w3 = w4 .before in
     let w2 = w3 .before .before .before .before in
     let w1 = w2 .before .before .before .before in
     let h = w1 .before in
     let ok = passed _ _ (h .enum-told .given .1) (h .before .before .check-header .ensures) in
     let e1 = w1 .word .ensures .0 in
     let e2 = w2 .word2 .ensures .0 in
-    let e4 = c .word4 .ensures .0 in
-    (omega (arith, e1, e2, header.few-joints _ ok, header.few-clips _ ok), rw (e1, e2), record { clips = e2; parameters = w3 .word3 .ensures .0; states = e4 }, omega (arith, e4, header.few-states _ ok))
+    let e4 = w4 .word4 .ensures .0 in
+    let place = c .sample-count-at .ensures _ e1 in
+    (states-begin _ ok _ (place ∙ ap (sampleCountAt _) e2), place ∙ ap (sampleCountAt _) e2, record { clips = e2; parameters = w3 .word3 .ensures .0; states = e4 }, omega (arith, e4, header.few-states _ ok))
 
 returns-4 : tie.Need-returns-4
 unfolding checkWords stateCount planEnd
 returns-4 c =
-    let d = c .before .before .before in
-    let states = rw (c .before .word4 .ensures .0) at (c .check-states .ensures) in
+    let d = c .before .before .before .before in
+    let states = rw (c .before .before .word4 .ensures .0) at (c .check-states .ensures) in
     record { answer = goes _ _ _ _ (d .enum-told5 .given .1) (up-to-sample-counts (d .before .before)) (states .answer); end = states .end; transitions = states .transitions }
 
 pub check-words-spec : {M : Type 1} → statement M
@@ -87,7 +96,6 @@ check-words-spec =
     (search needs)
     (search needs)
     returns-3
-    (search needs)
     (search needs)
     (search needs)
     (search needs)
