@@ -19,9 +19,8 @@ use Rattle.model.specs.Tree.{statePose, synchronize}
 use Rattle.model.specs.Controller.{isTargetBelow, transitionFactor, currentInstances, targetInstances, instancesIn, currentPose, targetPose, poseIn}
 use Rattle.model.specs.Skeleton.{jointMatrices, flat, written}
 use Rattle.layout.specs.declared.Layout.{Layout}
-use Rattle.layout.specs.declared.StateLayout.{StateLayout}
-use Rattle.layout.specs.Layout.{InPlan, stateLayout}
-use Rattle.layout.proofs.Laws.{joints-found, same-state}
+use Rattle.layout.specs.Layout.{InPlan}
+use Rattle.layout.proofs.Laws.{joints-found}
 use Rattle.lanes.specs.Lanes.{blockSize, laneAt}
 use Rattle.blend_tree.specs.declared.StateAt.{StateAt}
 use Rattle.blend_tree.specs.declared.Joints.{Joints}
@@ -31,7 +30,7 @@ use Rattle.skeleton.specs.Buffer.{GlobalPoses, jointsWritten}
 use Rattle.output_pose.specs.declared.Showing.{Showing}
 use Rattle.output_pose.specs.declared.Blend.{Blend}
 use Rattle.output_pose.specs.declared.Blend.the-variants.{Alone, Towards}
-use Rattle.output_pose.specs.Shown.{skeletonOf, poseAt, shownPose, TargetReady, Ready, StateShown, Blended, Shown}
+use Rattle.output_pose.specs.Shown.{skeletonOf, poseAt, shownPose, TargetReady, Ready, StateShown, TargetSynchronized, Blended, Shown}
 use Rattle.output_pose.proofs.Blend.{the-type as blend-type}
 
 -- ---- blocks
@@ -106,14 +105,17 @@ pub target-below : (n : ℕ) (t : Transition) (start duration : Float) (target :
 unfolding isTargetBelow
 target-below n t start duration target e h = ltb-true _ _ (rw e at h)
 
--- a state on its way to another, from the layout of the other
-pub blended-to : (plan : List ℕ) (numbers : List Float) (time factor : Float) (state target : ℕ) (parameters before after old new : List Float) (there : StateLayout) → there ≡ stateLayout plan target
-    → after ≡ synchronize plan numbers parameters time (there .state) before
-    → new ≡ skeletonOf plan (λ j. lerp (statePose plan numbers parameters time state before j) (statePose plan numbers parameters time (there .state) after j) factor) old
-    → Blended plan numbers time factor state target parameters before after old new
-blended-to plan numbers time factor state target parameters before after old new there s h k =
-    let same = same-state plan target s in
-    record { instances = rw (← same) h; output = rw (← same) k }
+-- a state on its way to another that was synchronised
+module _ {plan : List ℕ} {numbers : List Float} {state : StateAt} {target : ℕ} {factor : Float} {parameters : List Float} {targetSlots : List ℕ} {before after : List Float} {r : Showing} where
+  pub ready-towards : {slots : List ℕ} → Playable plan numbers (state .layout) → InPlan plan (state .here) → Slots plan (state .here .state) slots
+      → TargetSynchronized plan numbers state target factor parameters targetSlots before after r → Ready plan numbers r slots targetSlots
+  ready-towards ok inside filled t = rw (t .shown) (record { playable = ok; inside = inside; filled = filled; target = t .ready })
+
+  pub blended-to : {old new : List Float} → TargetSynchronized plan numbers state target factor parameters targetSlots before after r
+      → new ≡ skeletonOf plan (λ j. shownPose plan numbers parameters before after j (r .state) (r .blend)) old
+      → Blended plan numbers (state .time) factor (state .here .state) target parameters before after old new
+  unfolding shownPose
+  blended-to t e = record { instances = t .instances; output = rw (t .shown, t .number, t .time) at e }
 
 module _ (plan : List ℕ) (numbers : List Float) (time instant : Float) (state : ℕ) (parameters before old : List Float) where
   pub shown-idle : (t : Transition) (after new : List Float) → t ≡ Idle → StateShown plan numbers time state parameters before after old new

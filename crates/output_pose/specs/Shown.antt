@@ -57,6 +57,15 @@ pub record StateShown (plan : List ℕ) (numbers : List Float) (time : Float) (s
   pub instances : after ≡ synchronize plan numbers parameters time state before
   pub output : new ≡ skeletonOf plan (statePose plan numbers parameters time state after) old
 
+-- a target is synchronised on top of `before`, and r shows the state, blended towards it by a factor
+pub record TargetSynchronized (plan : List ℕ) (numbers : List Float) (state : StateAt) (target : ℕ) (factor : Float) (parameters : List Float) (slots : List ℕ) (before after : List Float) (r : Showing) : Type 0 where
+  pub there : StateAt
+  pub shown : r ≡ record { state = state; blend = Towards there factor }
+  pub ready : TargetReady plan (state .layout) slots (Towards there factor)
+  pub number : there .here .state ≡ target
+  pub time : there .time ≡ state .time
+  pub instances : after ≡ synchronize plan numbers parameters (state .time) target before
+
 -- a state on its way to another by a factor: the other is synchronised on top of `before`, and the output shows both, blended
 pub record Blended (plan : List ℕ) (numbers : List Float) (time factor : Float) (state target : ℕ) (parameters before after old new : List Float) : Type 0 where
   pub instances : after ≡ synchronize plan numbers parameters time target before

@@ -28,7 +28,7 @@ ghost use Rattle.model.specs.Controller.{isTargetBelow, transitionFactor};
 ghost use Rattle.layout.specs.Layout.{InPlan};
 ghost use Rattle.lanes.specs.Lanes.{blockSize};
 ghost use Rattle.blend_tree.specs.Blocks.{Filled, Playable, InBlock, Slots};
-ghost use Rattle.output_pose.specs.Shown.{skeletonOf, shownPose, Ready, JointShown, Blended, Shown};
+ghost use Rattle.output_pose.specs.Shown.{skeletonOf, shownPose, Ready, JointShown, TargetSynchronized, Blended, Shown};
 
 // What becomes of a state's poses: they are shown as they are, or blended by a factor towards those of another state.
 pub enum Blend {
@@ -160,6 +160,29 @@ fn transition_factor(instant: f64, start: f64, duration: f32) -> f32
     narrow((instant - start) / widen(duration))
 }
 
+// The target of a transition that has come so far is synchronised too; what is then to be shown.
+pub fn synchronize_target(
+    plan: &[u16],
+    numbers: &[f32],
+    state: StateAt,
+    target: usize,
+    factor: f32,
+    parameters: &[f32; MAX_PARAMETERS],
+    there_slots: &mut [u8; SLOTS],
+    instances: &mut [f32; MAX_INSTANCES],
+) -> Showing
+    requires { ⌜ Playable (now plan) (now numbers) (state .layout) × (target < stateCount (now plan)) ⌝ }
+    ensures { λ r. ⌜ TargetSynchronized (now (plan .entry)) (now (numbers .entry)) state target factor (now (parameters .entry)) (now («there_slots» .exit)) (now (instances .entry)) (now (instances .exit)) r ⌝ }
+{
+    let layout = state.layout;
+    let here = state_layout(plan, layout, target);
+    let time = state.time;
+    let there = StateAt { layout, here, time };
+    synchronize_state(plan, numbers, there, parameters, there_slots, instances);
+    let blend = Blend::Towards { there, factor };
+    Showing { state, blend }
+}
+
 // A state on its way to another. It shows itself by the instances that it had before the other's rates were set, as the Rust does.
 fn show_transition(
     plan: &[u16],
@@ -176,21 +199,17 @@ fn show_transition(
     ensures { λ _. ⌜ Blended (now (plan .entry)) (now (numbers .entry)) (state .time) factor (state .here .state) target (now (parameters .entry)) (now (instances .entry)) (now (instances .exit)) (now (output .entry)) (now (output .exit)) ⌝ }
 {
     let current = *instances;
-    let layout = state.layout;
-    let here = state_layout(plan, layout, target);
-    let time = state.time;
-    let there = StateAt { layout, here, time };
     let mut there_slots = [0u8; SLOTS];
-    synchronize_state(
+    let shown = synchronize_target(
         plan,
         numbers,
-        there,
+        state,
+        target,
+        factor,
         parameters,
         &mut there_slots,
         instances,
     );
-    let blend = Blend::Towards { there, factor };
-    let shown = Showing { state, blend };
     show_blocks(
         plan,
         numbers,
