@@ -1,16 +1,23 @@
 // Replays lists of calls, as many as standard input has, and prints what `replay` would print for each.
 // README.md has the format; oracle/compare records lists and the expected reports.
+use calls::MAX_LIST;
 use fields::Field;
 use fields::read_field;
 use libc::STDIN_FILENO;
 use libc::STDOUT_FILENO;
 use model::FieldForm;
+use model::limits::MAX_TEXT;
 use replay_print::print_replay;
 ghost use Prim.Native.Nat.{_≤_};
 ghost use lib.ListN.{length};
 
+const HEADER_SIZE: usize = 23;
+
+// A figure may be a byte too long.
+const FIGURE_SIZE: usize = MAX_TEXT + 1;
+
 // The number of bytes that a header names from `at` on; more than any case has where it names none.
-fn size_at(header: [u8; 23], at: usize) -> usize {
+fn size_at(header: [u8; HEADER_SIZE], at: usize) -> usize {
     let field = read_field(&header, at, FieldForm::Bits);
     match field {
         Field::Value { value, end: _ } => value,
@@ -33,20 +40,20 @@ fn print_case(figure: &[u8], figure_size: usize, calls: &[u8], calls_size: usize
 
 // False at the end of the input, and at a case that is cut off or too long.
 fn run_case() -> bool {
-    let mut header = [0u8; 23];
-    if io::read_full(STDIN_FILENO, &mut header) != 23 {
+    let mut header = [0u8; HEADER_SIZE];
+    if io::read_full(STDIN_FILENO, &mut header) != HEADER_SIZE {
         return false;
     }
     let figure_size = size_at(header, 5);
     let calls_size = size_at(header, 14);
-    if 65537 < figure_size {
+    if FIGURE_SIZE < figure_size {
         return false;
     }
-    if 262144 < calls_size {
+    if MAX_LIST < calls_size {
         return false;
     }
-    let mut figure = [0u8; 65537];
-    let mut calls = [0u8; 262144];
+    let mut figure = [0u8; FIGURE_SIZE];
+    let mut calls = [0u8; MAX_LIST];
     if !read_front(&mut figure, figure_size) {
         return false;
     }

@@ -1,5 +1,6 @@
 // Every one-byte damage of a text, with what the program would print.
 use libc::STDOUT_FILENO;
+use printing::MAX_PRINTED;
 use program::answer;
 use std::num::wrapping_add_u64;
 ghost use Prim.Native.Nat.{_<_, _≤_};
@@ -48,7 +49,7 @@ fn print_change(i: usize, v: usize, output: &[u8], h: u64) {
 fn print_damage(text: &[u8], size: usize, i: usize, v: usize, always: bool, last: u64) -> u64
     requires { ⌜ size ≤ length (now text) ⌝ }
 {
-    let mut out = [0u8; 9792];
+    let mut out = [0u8; MAX_PRINTED];
     let length = answer(&text[..size], &mut out);
     let h = hash(&out[..length]);
     if always || h != last {

@@ -8,12 +8,25 @@ use fields::read_field;
 use libc::STDIN_FILENO;
 use libc::STDOUT_FILENO;
 use model::FieldForm;
+use model::limits::MAX_TEXT;
+use printing::MAX_PRINTED;
 use program::answer;
 ghost use Prim.Native.Nat.{_≤_};
 ghost use lib.ListN.{length};
 
+// Of a text that is damaged, and of another, which has two bytes less.
+const HEADER_SIZE: usize = 16;
+
+const SHORT_HEADER_SIZE: usize = HEADER_SIZE - 2;
+
+// A text may be a byte too long.
+const TEXT_SIZE: usize = MAX_TEXT + 1;
+
+// The longest text that is damaged.
+const MAX_DAMAGED: usize = 1024;
+
 // The number of bytes that a header names from `at` on; more than any case has where it names none.
-fn size_at(header: [u8; 16], at: usize) -> usize {
+fn size_at(header: [u8; HEADER_SIZE], at: usize) -> usize {
     let field = read_field(&header, at, FieldForm::Bits);
     match field {
         Field::Value { value, end: _ } => value,
@@ -37,43 +50,43 @@ fn write_front(bytes: &[u8], size: usize)
 fn print_answer(text: &[u8], size: usize)
     requires { ⌜ size ≤ length (now text) ⌝ }
 {
-    let mut out = [0u8; 9792];
+    let mut out = [0u8; MAX_PRINTED];
     let length = answer(&text[..size], &mut out);
     io::write_all(STDOUT_FILENO, &out[..length]);
 }
 
-fn run_text(header: [u8; 16]) -> bool {
+fn run_text(header: [u8; HEADER_SIZE]) -> bool {
     let size = size_at(header, 5);
-    if 65537 < size {
+    if TEXT_SIZE < size {
         return false;
     }
-    let mut text = [0u8; 65537];
+    let mut text = [0u8; TEXT_SIZE];
     if !read_front(&mut text, size) {
         return false;
     }
-    write_front(&header, 14);
+    write_front(&header, SHORT_HEADER_SIZE);
     print_answer(&text, size);
     true
 }
 
-fn run_damage(header: [u8; 16]) -> bool {
+fn run_damage(header: [u8; HEADER_SIZE]) -> bool {
     let size = size_at(header, 7);
-    if 1024 < size {
+    if MAX_DAMAGED < size {
         return false;
     }
-    let mut text = [0u8; 1024];
+    let mut text = [0u8; MAX_DAMAGED];
     if !read_front(&mut text, size) {
         return false;
     }
-    write_front(&header, 16);
+    write_front(&header, HEADER_SIZE);
     print_damaged(&mut text, size);
     true
 }
 
 // False at the end of the input, and at a case that is cut off or has no size.
 fn run_case() -> bool {
-    let mut header = [0u8; 16];
-    if io::read_full(STDIN_FILENO, &mut header[..14]) != 14 {
+    let mut header = [0u8; HEADER_SIZE];
+    if io::read_full(STDIN_FILENO, &mut header[..SHORT_HEADER_SIZE]) != SHORT_HEADER_SIZE {
         return false;
     }
     if header[0] != b'd' {
@@ -83,8 +96,8 @@ fn run_case() -> bool {
     if io::read_full(STDIN_FILENO, &mut rest) != 2 {
         return false;
     }
-    header[14] = rest[0];
-    header[15] = rest[1];
+    header[SHORT_HEADER_SIZE] = rest[0];
+    header[SHORT_HEADER_SIZE + 1] = rest[1];
     run_damage(header)
 }
 
