@@ -1,5 +1,4 @@
 -- `controller::update_in_place` meets its contract: `update` changes the player where it lies. Assumes nothing.
-use ghost.Atoms.{Atoms}
 use contract.Running.{givenOf, tables, tablesOf}
 use denote.Triple.Spec.{tripleOf}
 use denote.Triple.Table.{entered, cited}
