@@ -1,8 +1,9 @@
 -- Digits, the run that stands at a place of a text, its number, and the field there. Assumes nothing.
 use Prim.Native.Nat.{ℕ, zero, suc, _+_, _-_, _*_, _^_, _<_, _≤_}
-use native.Mathlib.Nat.{pow-zero, pow-suc, add-mul, mul-assoc, add-assoc, mul-le-mul, le-mul-of-pos-right}
+use native.Mathlib.Nat.{mul-le-mul, le-mul-of-pos-right}
 use native.Mathlib.Omega.{arith}
 use mathlib.Core.Path.{_≡_, refl, sym, _∙_}
+use mathlib.Core.Logic.{⊎-elim, inl, inr}
 use mathlib.Core.Bool.{Bool, true, false, cond, not, _||_}
 use mathlib.Core.List.{List, [], _∷_}
 use lib.Dec.{leb, ltb, eqb}
@@ -10,11 +11,13 @@ use lib.ListN.{length, getD, drop, length-drop, drop-of-length-le}
 use lib.Seq.{drop-cons, drop-drop, getD-drop}
 use borrow.Author.Tests.{lt-ltb, le-ltb, le-leb, lt-leb, eqb-true, eq-eqb, ne-eqb}
 use Rattle.model.specs.declared.FieldForm.{FieldForm}
-use Rattle.model.specs.declared.FieldForm.the-variants.{Decimal}
+use Rattle.model.specs.declared.FieldForm.the-variants.{Decimal, Bits}
 use Rattle.model.specs.Check.{within}
 use Rattle.model.specs.Laws.Tests.{within-high}
 use Rattle.model.specs.Laws.Digits.{run-length, numeral-small}
 use Rattle.model.specs.Text.{front, digit, run, numeral, baseOf, isField, Field, none, field, fieldIn}
+use Rattle.fields.specs.Counted.{Counted}
+use Rattle.fields.specs.Wide.{hexadecimalIn}
 
 -- ---- a digit
 
@@ -80,22 +83,35 @@ numeral-more base s at i value d h v e =
     let back : at + (i - at) ≡ i = omega arith in
     rw (one, getD-drop, back, v, e)
 
-numeral-grows : (base : ℕ) (s : List ℕ) (k m : ℕ) → 1 ≤ base → numeral base k s ≤ numeral base (m + k) s
-unfolding numeral
-numeral-grows base s k zero h = let e : zero + k ≡ k = omega arith in rw e (omega arith)
-numeral-grows base s k (suc m) h =
-    let e : suc m + k ≡ suc (m + k) = omega arith in
-    rw e (omega (arith, numeral-grows base s k m h, le-mul-of-pos-right (numeral base (m + k) s) h))
-
--- a number that some of the digits write is not above that of all of them
-pub numeral-above : (base : ℕ) (s : List ℕ) (k n value most : ℕ) → 1 ≤ base → k ≤ n → value ≡ numeral base k s → most < value → most < numeral base n s
-numeral-above base s k n value most h l e m =
-    let f : n - k + k ≡ n = omega arith in
-    omega (arith, rw f at (numeral-grows base s k (n - k) h))
-
 -- one digit more fits 64 bits
-pub room : (value base d : ℕ) → value < 2 ^ 32 → base ≤ 16 → d ≤ 16 → value * base + d < 2 ^ 64
-room value base d v b l = let p : value ≤ 2 ^ 32 = omega arith in omega (arith, mul-le-mul p b)
+pub room : (value base d : ℕ) → value < 2 ^ 60 → base ≤ 16 → d < 16 → value * base + d < 2 ^ 64
+room value base d v b l = let p : value ≤ 2 ^ 60 - 1 = omega arith in omega (arith, mul-le-mul p b)
+
+numeral-goes : (base : ℕ) (s : List ℕ) (k : ℕ) → 1 ≤ base → numeral base (k - 1) s ≤ numeral base k s
+unfolding numeral
+numeral-goes base s zero h = omega arith
+numeral-goes base s (suc k) h = let e : suc k - 1 ≡ k = omega arith in rw e (omega (arith, le-mul-of-pos-right (numeral base k s) h))
+
+-- a number that is not counted further once it is above `most`
+module _ (base most : ℕ) (s : List ℕ) (k value : ℕ) (c : Counted base most k s value) where
+  pub counted : value ≤ most → value ≡ numeral base k s
+  counted h = ⊎-elim (λ e. e) (λ o. absurd (omega (arith, o .0))) c
+
+  pub above : 1 ≤ base → most < value → most < numeral base k s
+  above b h = ⊎-elim (λ e. omega (arith, e)) (λ o. omega (arith, o .1, numeral-goes base s k b)) c
+
+  -- what all but the last digit write is not above `most`
+  exact : numeral base (k - 1) s ≤ most → value ≡ numeral base k s
+  exact h = ⊎-elim (λ e. e) (λ o. absurd (omega (arith, o .1))) c
+
+module _ (base most : ℕ) (text : List ℕ) (at i value : ℕ) (h : at ≤ i) (c : Counted base most (i - at) (drop at text) value) where
+  pub counts : (d : ℕ) → value ≤ most → d ≡ digit (getD text i 0) → Counted base most (i + 1 - at) (drop at text) (value * base + d)
+  counts d l e = inl (numeral-more base text at i value d h (counted base most (drop at text) (i - at) value c l) e)
+
+  pub stays : 1 ≤ base → most < value → Counted base most (i + 1 - at) (drop at text) value
+  stays b l =
+      let e : i + 1 - at - 1 ≡ i - at = omega arith in
+      inr (l, rw e (above base most (drop at text) (i - at) value c b l))
 
 -- ---- the field at a place, where `end` is the place behind its run
 
@@ -149,55 +165,24 @@ module _ (limit : ℕ) (s : List ℕ) (at end : ℕ) (ends : end ≡ at + run 10
     pub decimal-reads : (v : ℕ) → v ≤ limit → v ≡ numeral 10 (end - at) (drop at s) → field v (drop end s) ≡ fieldIn (Decimal limit) (drop at s)
     decimal-reads v l e = is-field (Decimal limit) s at end ends v e (decides ∙ le-leb _ limit (omega (arith, e)))
 
--- ---- float bits: a run of just n digits
+-- ---- float bits: a run of just so many digits
 
--- eight digits fit 32 bits, so that `numeral`, which stops above 32 bits, gives their number
-pub record Eight (s : List ℕ) (at v : ℕ) : Type 0 where
-  pub writes : v ≡ numeral 16 8 (drop at s)
-  pub fits : v < 2 ^ 32
-
-pub eight : (s : List ℕ) (at end v : ℕ) → end - at ≡ 8 → 8 ≤ run 16 (drop at s) → (v ≤ 4294967295 → v ≡ numeral 16 (end - at) (drop at s))
-    → (4294967295 < v → 4294967295 < numeral 16 (end - at) (drop at s)) → Eight s at v
-eight s at end v h l small large =
-    let fits : numeral 16 (end - at) (drop at s) < 16 ^ 8 = rw h (numeral-small 16 (drop at s) 8 l) in
-    let no : 4294967295 < v → ⊥ = λ m. omega (arith, large m) in
-    record { writes = rw h at (small (omega arith)); fits = omega arith }
-
--- the field of k digits where n are asked for
-abbrev pub digitsIn : ℕ → ℕ → List ℕ → Field
-digitsIn n k s = cond (eqb (run 16 s) n) (field (numeral 16 k s) (drop k s)) none
-
-module _ (s : List ℕ) (at end : ℕ) (ends : end ≡ at + run 16 (drop at s)) (n k : ℕ) where
-  pub digits-none : (end - at ≡ n → ⊥) → none ≡ digitsIn n k (drop at s)
-  digits-none h = rw (ne-eqb (run 16 (drop at s)) n (λ e. h (omega arith)))
-
-  pub digits-read : (v : ℕ) → end - at ≡ n → k ≡ n → v ≡ numeral 16 n (drop at s) → field v (drop end s) ≡ digitsIn n k (drop at s)
-  digits-read v h e q =
-      let f : at + k ≡ end = omega arith in
-      rw (eq-eqb (run 16 (drop at s)) n (omega arith), drop-drop, f, e, q)
-
--- two halves
-
-numeral-split : (base : ℕ) (s : List ℕ) (m k : ℕ) → numeral base (m + k) s ≡ numeral base m s * base ^ k + numeral base k (drop m s)
-unfolding numeral
-numeral-split base s m zero = let e : m + zero ≡ m = omega arith in rw (e, pow-zero base) (omega arith)
-numeral-split base s m (suc k) =
-    let e : m + suc k ≡ suc (m + k) = omega arith in
-    rw (e, numeral-split base s m k, pow-suc base k, add-mul, mul-assoc, getD-drop, add-assoc)
-
-run-later : (base : ℕ) (m : ℕ) (s : List ℕ) → m ≤ run base s → run base (drop m s) ≡ run base s - m
-unfolding run
-run-later base zero s h = omega arith
-run-later base (suc m) [] h = omega arith
-run-later base (suc m) (b ∷ s) h = at (ltb (digit b) base) h (run-later base m s)
+-- the run's own length, or the count that is asked for
+pub bits-form : (s : List ℕ) → fieldIn Bits s ≡ hexadecimalIn 8 s
+unfolding fieldIn isField
+bits-form s = at (eqb (run 16 s) 8) refl
   where
-    at : (t : Bool) → suc m ≤ cond t (suc (run base s)) 0 → (m ≤ run base s → run base (drop m s) ≡ run base s - m)
-        → run base (drop m s) ≡ cond t (suc (run base s)) 0 - suc m
-    at true h later = omega (arith, later (omega arith))
-    at false h later = absurd (omega arith)
+    at : (t : Bool) → eqb (run 16 s) 8 ≡ t → cond t (field (numeral 16 (run 16 s) s) (drop (run 16 s) s)) none ≡ cond t (field (numeral 16 8 s) (drop 8 s)) none
+    at true e = let k : run 16 s ≡ 8 = eqb-true _ _ e in rw k
+    at false e = refl
 
-pub second-half : (s : List ℕ) (at : ℕ) → 16 ≤ run 16 (drop at s) → 8 ≤ run 16 (drop (at + 8) s)
-second-half s at h = rw (← drop-drop 8 at s) (omega (arith, run-later 16 8 (drop at s) (omega arith)))
+module _ (s : List ℕ) (at end : ℕ) (ends : end ≡ at + run 16 (drop at s)) (n : ℕ) where
+  pub bits-none : (end - at ≡ n → ⊥) → none ≡ hexadecimalIn n (drop at s)
+  bits-none h = rw (ne-eqb (run 16 (drop at s)) n (λ e. h (omega arith)))
 
-pub halves : {s : List ℕ} {at high low : ℕ} → Eight s at high → Eight s (at + 8) low → high * 4294967296 + low ≡ numeral 16 16 (drop at s)
-halves {s} {at} h l = rw (numeral-split 16 (drop at s) 8 8, drop-drop, h .writes, l .writes)
+  pub bits-read : (most v : ℕ) → Counted 16 most (end - at) (drop at s) v → 16 ^ (n - 1) ≤ most + 1 → end - at ≡ n → field v (drop end s) ≡ hexadecimalIn n (drop at s)
+  bits-read most v c p h =
+      let f : at + n ≡ end = omega arith in
+      let small : numeral 16 (n - 1) (drop at s) < 16 ^ (n - 1) = numeral-small 16 (drop at s) (n - 1) (omega arith) in
+      let q : v ≡ numeral 16 n (drop at s) = exact 16 most (drop at s) n v (rw h at c) (omega arith) in
+      rw (eq-eqb (run 16 (drop at s)) n (omega arith), drop-drop, f, q)

@@ -1,4 +1,4 @@
--- Sixteen lower-case hexadecimal digits: the bits of a 64-bit float in a list of calls. Definitions only.
+-- Lower-case hexadecimal digits: sixteen are the bits of a 64-bit float in a list of calls. Definitions only.
 use Prim.Native.Nat.{ℕ}
 use mathlib.Core.Bool.{cond}
 use mathlib.Core.List.{List}
@@ -6,5 +6,9 @@ use lib.ListN.{drop}
 use lib.Dec.{eqb}
 use Rattle.model.specs.Text.{run, numeral, Field, none, field}
 
+-- a run of just so many digits
+abbrev pub hexadecimalIn : ℕ → List ℕ → Field
+hexadecimalIn count s = cond (eqb (run 16 s) count) (field (numeral 16 count s) (drop count s)) none
+
 unfoldable pub wideBitsIn : List ℕ → Field
-wideBitsIn s = cond (eqb (run 16 s) 16) (field (numeral 16 16 s) (drop 16 s)) none
+wideBitsIn s = hexadecimalIn 16 s

@@ -4,24 +4,23 @@ ghost use mathlib.Core.Path.{_≡_};
 ghost use mathlib.Core.Bool.{cond};
 ghost use Prim.Native.Nat.{ℕ, _+_, _-_, _<_, _≤_, _^_};
 ghost use lib.ListN.{length, getD, drop};
-ghost use Rattle.model.specs.Text.{digit, run, numeral, fieldIn, begins};
+ghost use Rattle.model.specs.Text.{digit, run, fieldIn, begins};
 ghost use Rattle.model.specs.declared.FieldForm.the-variants as FieldForm;
 ghost use Rattle.fields.specs.Found.{found};
-ghost use Rattle.fields.specs.Wide.{wideBitsIn};
+ghost use Rattle.fields.specs.Wide.{hexadecimalIn, wideBitsIn};
+ghost use Rattle.fields.specs.Counted.{Counted};
 
 const DECIMAL: usize = 10;
 
 const HEXADECIMAL: usize = 16;
 
-// How many digits the bits of a 32-bit float have, and the largest number that these write.
+// How many digits the bits of a 32-bit float have, and those of a 64-bit float.
 const BITS_DIGITS: usize = 8;
 
-const MAX_BITS: usize = 0xffff_ffff;
-
-// The digits of a 64-bit float's bits, and what the upper half of them is multiplied by.
 const WIDE_DIGITS: usize = 2 * BITS_DIGITS;
 
-const UPPER: usize = MAX_BITS + 1;
+// The largest number of fifteen digits: one digit more fits 64 bits.
+const MAX_FIFTEEN: usize = 0x0fff_ffff_ffff_ffff;
 
 // A field's number and the place behind its last digit.
 pub enum Field {
@@ -73,41 +72,38 @@ fn digit(b: u8) -> usize
     HEXADECIMAL
 }
 
-// Where the run of digits that begins at `at` ends.
-fn run_end(text: &[u8], at: usize, base: usize) -> usize
-    ensures { λ r. ⌜ r ≡ at + run base (drop at (now (text .entry))) ⌝ }
-{
-    let mut i = at;
-    while i < text.len() {
-        if digit(text[i]) >= base {
-            return i;
-        }
-        i += 1;
-    }
-    i
+// The number that a run of digits writes, and the place behind it.
+struct Digits {
+    value: usize,
+    end: usize,
 }
 
-// What the digits between `at` and `end` write. It stops as soon as that is above `most`, so that a long run cannot overflow.
-fn numeral(text: &[u8], at: usize, end: usize, base: usize, most: usize) -> usize
-    requires { ⌜ (at ≤ end) × (end ≤ length (now text)) × (base ≤ 16) × (1 ≤ base) × (most < 2 ^ 32) ⌝ }
-    ensures { λ r. ⌜ (r ≤ most → r ≡ numeral base (end - at) (drop at (now (text .entry)))) × (most < r → most < numeral base (end - at) (drop at (now (text .entry)))) ⌝ }
+// The run that begins at `at`. Once its number is above `most` it is not counted further, so that a long run cannot overflow.
+fn digits_at(text: &[u8], at: usize, base: usize, most: usize) -> Digits
+    requires { ⌜ (1 ≤ base) × (base ≤ 16) × (most < 2 ^ 60) ⌝ }
+    ensures { λ r. ⌜ (r .end ≡ at + run base (drop at (now (text .entry)))) × Counted base most (r .end - at) (drop at (now (text .entry))) (r .value) ⌝ }
 {
     let mut value: usize = 0;
     let mut i = at;
-    while i < end {
-        value = value * base + digit(text[i]);
-        i += 1;
-        if most < value {
-            return value;
+    while i < text.len() {
+        let next = digit(text[i]);
+        if next >= base {
+            return Digits { value, end: i };
         }
+        if value <= most {
+            value = value * base + next;
+        }
+        i += 1;
     }
-    value
+    Digits { value, end: i }
 }
 
 fn decimal_at(text: &[u8], at: usize, limit: u16) -> Field
     ensures { λ r. ⌜ found (now (text .entry)) r ≡ fieldIn (FieldForm.Decimal limit) (drop at (now (text .entry))) ⌝ }
 {
-    let end = run_end(text, at, DECIMAL);
+    let most = limit as usize;
+    let digits = digits_at(text, at, DECIMAL, most);
+    let end = digits.end;
     if end == at {
         return Field::Nothing;
     }
@@ -116,40 +112,32 @@ fn decimal_at(text: &[u8], at: usize, limit: u16) -> Field
             return Field::Nothing;
         }
     }
-    let most = limit as usize;
-    let value = numeral(text, at, end, DECIMAL, most);
+    let value = digits.value;
     if most < value {
         return Field::Nothing;
     }
     Field::Value { value, end }
 }
 
-fn bits_at(text: &[u8], at: usize) -> Field
-    ensures { λ r. ⌜ found (now (text .entry)) r ≡ fieldIn FieldForm.Bits (drop at (now (text .entry))) ⌝ }
+// The bits that so many digits write.
+fn bits_at(text: &[u8], at: usize, count: usize) -> Field
+    requires { ⌜ 16 ^ (count - 1) ≤ 2 ^ 60 ⌝ }
+    ensures { λ r. ⌜ found (now (text .entry)) r ≡ hexadecimalIn count (drop at (now (text .entry))) ⌝ }
 {
-    let end = run_end(text, at, HEXADECIMAL);
-    if end - at != BITS_DIGITS {
+    let digits = digits_at(text, at, HEXADECIMAL, MAX_FIFTEEN);
+    let end = digits.end;
+    if end - at != count {
         return Field::Nothing;
     }
-    let value = numeral(text, at, end, HEXADECIMAL, MAX_BITS);
+    let value = digits.value;
     Field::Value { value, end }
 }
 
-// The bits of a 64-bit float: two halves of eight digits, each of which fits 32 bits.
+// The bits of a 64-bit float.
 pub fn read_wide_bits(text: &[u8], at: usize) -> Field
     ensures { λ r. ⌜ found (now (text .entry)) r ≡ wideBitsIn (drop at (now (text .entry))) ⌝ }
 {
-    let end = run_end(text, at, HEXADECIMAL);
-    if end - at != WIDE_DIGITS {
-        return Field::Nothing;
-    }
-    let middle = at + BITS_DIGITS;
-    let high = numeral(text, at, middle, HEXADECIMAL, MAX_BITS);
-    let low = numeral(text, middle, end, HEXADECIMAL, MAX_BITS);
-    Field::Value {
-        value: high * UPPER + low,
-        end,
-    }
+    bits_at(text, at, WIDE_DIGITS)
 }
 
 // The field at a place of a text.
@@ -158,6 +146,6 @@ pub fn read_field(text: &[u8], at: usize, form: FieldForm) -> Field
 {
     match form {
         FieldForm::Decimal { limit } => decimal_at(text, at, limit),
-        FieldForm::Bits => bits_at(text, at),
+        FieldForm::Bits => bits_at(text, at, BITS_DIGITS),
     }
 }

@@ -15,12 +15,12 @@ use model::limits::MAX_TRANSITIONS;
 use model::limits::MAX_WORD;
 ghost use mathlib.Core.Path.{_≡_};
 ghost use mathlib.Core.Bool.{cond};
-ghost use Prim.Native.Nat.{_-_, _≤_};
-ghost use lib.ListN.{length, take, drop};
+ghost use Prim.Native.Nat.{_-_, _<_, _≤_};
+ghost use lib.ListN.{length, set, take, drop};
 ghost use Rattle.model.specs.Text.{name, begins, forms, fieldCount, formOf, fieldsIn, lineIn};
 ghost use Rattle.model.specs.declared.FieldForm.the-variants as FieldForm;
 ghost use Rattle.lines.specs.Found.{lineFound};
-ghost use Rattle.lines.specs.Reading.{lineOf, Step};
+ghost use Rattle.lines.specs.Reading.{maxFields, lineOf, Step};
 
 // No line has more fields.
 pub const MAX_FIELDS: usize = 8;
@@ -116,6 +116,26 @@ struct Reading {
     end: usize,
 }
 
+// The values with one at place k. Each place is written by its number, so that the array can be kept in registers: a copy of one that lies in memory
+// waits for what was just written to it.
+fn with_value(values: [usize; MAX_FIELDS], k: usize, value: usize) -> [usize; MAX_FIELDS]
+    requires { ⌜ k < maxFields ⌝ }
+    ensures { λ r. ⌜ r ≡ set values k value ⌝ }
+{
+    let mut kept = values;
+    match k {
+        0 => kept[0] = value,
+        1 => kept[1] = value,
+        2 => kept[2] = value,
+        3 => kept[3] = value,
+        4 => kept[4] = value,
+        5 => kept[5] = value,
+        6 => kept[6] = value,
+        _ => kept[7] = value,
+    }
+    kept
+}
+
 // A comma and the first of the fields that are left. Where they do not stand nothing is left, and the place is the text's end, which is no line's end.
 fn field_at(text: &[u8], at: usize, kind: LineKind, reading: Reading) -> Reading
     requires { ⌜ (1 ≤ reading .left) × (reading .left ≤ fieldCount kind) ⌝ }
@@ -123,11 +143,11 @@ fn field_at(text: &[u8], at: usize, kind: LineKind, reading: Reading) -> Reading
 {
     let left = reading.left;
     let k = field_count(kind) - left;
-    let mut values = reading.values;
+    let values = reading.values;
     if byte(text, at) == b',' {
         let field = read_field(text, at + 1, field_form(kind, k));
         if let Field::Value { value, end } = field {
-            values[k] = value;
+            let values = with_value(values, k, value);
             return Reading {
                 values,
                 left: left - 1,

@@ -4,62 +4,54 @@ use mathlib.Core.Logic.{⊎-elim}
 use mathlib.Core.Path.{_≡_}
 use lib.ListN.{getD}
 use Rattle.fields.specs.Found.{found}
-use Rattle.fields.proofs.Laws.{run-inside, decimal-none, decimal-leads, decimal-above, decimal-reads}
+use Rattle.fields.proofs.Laws.{run-inside, counted, above, decimal-none, decimal-leads, decimal-above, decimal-reads}
 use borrow.Author.Needs.{needs}
 use Rattle.fields.proofs.decimal_at.Statement.{statement}
 use Rattle.fields.proofs.decimal_at.Tie as tie
 
-run-end-requires : tie.Need-run-end-requires
-run-end-requires c κs = search needs
-
 returns : tie.Need-returns
 unfolding found
-returns c = decimal-none _ _ _ _ (c .before .run-end .ensures) (c .if1 .taken)
+returns c = decimal-none _ _ _ _ (c .before .digits-at .ensures .0) (c .if1 .taken)
 
 shared-slice-read-if2 : tie.Need-shared-slice-read-if2
 shared-slice-read-if2 c =
     let r = c .before .before in
     let args = r .before .before .args in
-    omega (arith, run-inside 10 (args .text .now) (args .at) (r .run-end .result) (r .run-end .ensures) (omega arith))
-
-add-if3 : tie.Need-add-if3
-add-if3 c = search needs
+    omega (arith, run-inside 10 (args .text .now) (args .at) (r .digits-at .result .end) (r .digits-at .ensures .0) (omega arith))
 
 returns-2 : tie.Need-returns-2
 unfolding found
-returns-2 c = decimal-leads _ _ _ _ (c .before .before .before .before .run-end .ensures) (omega arith) (c .before .if2 .taken)
-
-numeral-requires : tie.Need-numeral-requires
-numeral-requires c κs = (search needs, run-inside 10 _ _ _ (c .before .before .before .run-end .ensures) (omega arith), search needs, search needs, search needs)
+returns-2 c = decimal-leads _ _ _ _ (c .before .before .before .before .digits-at .ensures .0) (omega arith) (c .before .if2 .taken)
 
 -- past the `if` no zero leads, whichever way control came
 leads : (c : tie.Joined2) → let r = c .before .before .before in let args = r .before .before .args in
-    getD (args .text .now) (args .at) 0 ≡ 48 → r .run-end .result ≤ args .at + 1
+    getD (args .text .now) (args .at) 0 ≡ 48 → r .digits-at .result .end ≤ args .at + 1
 leads c z = ⊎-elim (λ w. omega arith) (λ w. omega arith) (c .if2 .came)
 
 returns-3 : tie.Need-returns-3
 unfolding found
 returns-3 c =
-    let j = c .before .before in
+    let j = c .before in
     let e = j .before .before in
-    decimal-above _ _ _ _ (e .before .run-end .ensures) (e .if1 .left) (leads j) (omega (arith, c .before .numeral .ensures .1 (c .if4 .taken)))
+    let d = e .before .digits-at in
+    decimal-above _ _ _ _ (d .ensures .0) (e .if1 .left) (leads j) (above 10 _ _ _ _ (d .ensures .1) (omega arith) (c .if4 .taken))
 
 returns-4 : tie.Need-returns-4
 unfolding found
 returns-4 c =
-    let j = c .before .before in
+    let j = c .before in
     let e = j .before .before in
-    decimal-reads _ _ _ _ (e .before .run-end .ensures) (e .if1 .left) (leads j) (c .before .numeral .result) (omega arith) (c .before .numeral .ensures .0 (c .if4 .left))
+    let d = e .before .digits-at in
+    decimal-reads _ _ _ _ (d .ensures .0) (e .if1 .left) (leads j) (d .result .value) (omega arith) (counted 10 _ _ _ _ (d .ensures .1) (c .if4 .left))
 
 pub decimal-at-spec : {M : Type 1} → statement M
 decimal-at-spec =
     tie.close
     (tie.spec
-    run-end-requires
+    (search needs)
     returns
     shared-slice-read-if2
-    add-if3
+    (search needs)
     returns-2
-    numeral-requires
     returns-3
     returns-4)

@@ -13,19 +13,20 @@ add-read-field c =
     let a = c .before .before .before .before .before .args in
     omega (arith, inside (a .text .now) (a .at) (c .before .byte .ensures) (omega arith))
 
-array-write-values : tie.Need-array-write-values
-array-write-values c =
+with-value-requires : tie.Need-with-value-requires
+with-value-requires c κs =
     let v = c .before .before .before .before .before .before .before in
     omega (arith, fields-few (v .before .before .before .args .kind))
 
 returns : tie.Need-returns
 unfolding found
 returns c =
-    let f = c .before .before .before .before in
+    let f = c .before .before .before .before .before in
     let b = f .before .before in
     let a = b .before .before .before .before in
-    field-goes _ _ _ _ (a .pre .0) (a .pre .1) (b .byte .ensures) (f .before .if1 .taken) (f .field-form .ensures) (omega arith) (values-length (a .args .reading) _ (a .good .1 .1 .1 .0))
-    (sym (c .before .before .before .read-field .ensures) ∙ ap (found _) (c .before .field .given .1))
+    rw (c .with-value .ensures)
+    (field-goes _ _ _ _ (a .pre .0) (a .pre .1) (b .byte .ensures) (f .before .if1 .taken) (f .field-form .ensures) (omega arith) (values-length (a .args .reading) _ (a .good .1 .1 .1 .0))
+    (sym (c .before .before .before .before .read-field .ensures) ∙ ap (found _) (c .before .before .field .given .1)))
 
 returns-2 : tie.Need-returns-2
 unfolding found
@@ -52,8 +53,7 @@ field-at-spec =
     (search needs)
     (search needs)
     (search needs)
-    (λ c. omega (arith, array-write-values c))
-    array-write-values
+    with-value-requires
     (search needs)
     returns
     (search needs)
