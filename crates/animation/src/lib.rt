@@ -98,7 +98,7 @@ pub fn set_instance(instances: &mut [f32; MAX_INSTANCES], n: usize, i: ClipInsta
     instances[INSTANCE_FLOATS * n + 2] = i.offset;
 }
 
-pub fn pose_from(numbers: &[f32], at: usize) -> Pose
+fn pose_from(numbers: &[f32], at: usize) -> Pose
     requires { ⌜ at + 8 ≤ length (now numbers) ⌝ }
     ensures { λ r. ⌜ r ≡ poseFrom (now (numbers .entry)) at ⌝ }
 {

@@ -17,28 +17,40 @@ use Rattle.layout.specs.Layout.{layoutOf}
 use Rattle.layout.proofs.Laws.{joints-found}
 use Rattle.animation.specs.declared.Position.{Position}
 use Rattle.animation.specs.Sampling.{positionIn, poseFrom}
-use Rattle.blend_tree.specs.Blocks.{Playable}
-use Rattle.blend_tree.specs.Sampling.{samplesAt, poseStart, poseBetween, Sampled}
+use Rattle.blend_tree.specs.declared.sampling.Clip.{Clip}
+use Rattle.blend_tree.specs.declared.Joints.{Joints}
+use Rattle.blend_tree.specs.Blocks.{Playable, InBlock}
+use Rattle.blend_tree.specs.Sampling.{clipOf, samplesAt, poseStart, poseBetween, Sampled}
 
--- ---- a position in clip c
+-- ---- a clip
 
-module _ {plan : List ℕ} {numbers : List Float} {layout : Layout} (ok : Playable plan numbers layout) {c : ℕ} (clip : c < clipCount plan) where
+module _ {plan : List ℕ} {numbers : List Float} {layout : Layout} (ok : Playable plan numbers layout) {c : ℕ} (inside : c < clipCount plan) where
   some : 0 < sampleCount plan c
-  some = some-samples plan (length numbers) (ok .passed) c clip
+  some = some-samples plan (length numbers) (ok .passed) c inside
 
   few : sampleCount plan c ≤ maxSamples
-  few = few-samples plan (length numbers) (ok .passed) c clip
+  few = few-samples plan (length numbers) (ok .passed) c inside
 
-  pub clip-small : c ≤ maxClips
-  clip-small = omega (arith, clip, few-clips plan (length numbers) (ok .passed))
+  pub clip-small : c < maxClips
+  clip-small = omega (arith, inside, few-clips plan (length numbers) (ok .passed))
 
-  module _ {samples : ℕ} (sampled : samples ≡ sampleCount plan c) where
-    pub clip-sampled : 0 < samples
-    clip-sampled = rw sampled some
+  few-before : samplesBefore plan c ≤ maxClips * maxSamples
+  unfolding samplesBefore
+  few-before = omega (arith, clip-small, total-most (sampleCount plan) maxSamples c (λ k l. few-samples plan (length numbers) (ok .passed) k (omega (arith, inside))))
 
-    pub position-small : {p : Position} (x : Float) → p ≡ positionIn samples x → (p .first < maxSamples) × (p .second < maxSamples)
-    unfolding positionIn firstIndex secondIndex
-    position-small x found = rw (found, sampled) (omega (arith, few, mod-lt (floorIndex x) some), omega (arith, few, mod-lt (ceilingIndex x) some))
+  -- what `clip_samples` asks
+  pub clip-sized : {clip : Clip} → clip ≡ clipOf plan numbers c → (0 < clip .samples) × (clip .samples ≤ maxSamples) × (clip .before ≤ maxClips * maxSamples)
+  unfolding clipOf
+  clip-sized e = rw e (some, few, few-before)
+
+  -- what `joint_pose` and `clip_poses` ask of what it gives
+  pub sampled : {clip : Clip} {p : Position} (x : Float) → clip ≡ clipOf plan numbers c → p ≡ samplesAt clip x → Sampled numbers layout p
+  sampled x e found = record { plan = plan; c = c; position = x; playable = ok; clip = inside; found = rw e at found }
+
+-- a position in n samples
+pub position-below : {n : ℕ} {p : Position} (x : Float) → 0 < n → p ≡ positionIn n x → (p .first < n) × (p .second < n)
+unfolding positionIn firstIndex secondIndex
+position-below x h e = rw e (mod-lt (floorIndex x) h, mod-lt (ceilingIndex x) h)
 
 -- ---- samples of a clip
 
@@ -48,11 +60,11 @@ module _ {numbers : List Float} {layout : Layout} {p : Position} (s : Sampled nu
   all = samplesBefore (s .plan) (clipCount (s .plan))
 
   first-below : p .first < all
-  unfolding samplesAt firstIndex samplesBefore
+  unfolding clipOf samplesAt firstIndex samplesBefore
   first-below = rw (s .found) (total-below (sampleCount (s .plan)) (clipCount (s .plan)) (s .c) _ (s .clip) (mod-lt _ (some (s .playable) (s .clip))))
 
   second-below : p .second < all
-  unfolding samplesAt secondIndex samplesBefore
+  unfolding clipOf samplesAt secondIndex samplesBefore
   second-below = rw (s .found) (total-below (sampleCount (s .plan)) (clipCount (s .plan)) (s .c) _ (s .clip) (mod-lt _ (some (s .playable) (s .clip))))
 
   all-few : all ≤ maxClips * maxSamples
@@ -82,9 +94,19 @@ module _ {numbers : List Float} {layout : Layout} {p : Position} (s : Sampled nu
   pub joint-inside : {j : ℕ} → j < layout .joints → (poseStart layout (p .first) j + 8 ≤ length numbers) × (poseStart layout (p .second) j + 8 ≤ length numbers)
   joint-inside {j} h = (inside (p .first) j first-below h, inside (p .second) j second-below h)
 
+-- the joints of a row, one after the other
+pub row-start : (layout : Layout) (sample first i : ℕ) → poseStart layout sample first + 8 * i ≡ poseStart layout sample (first + i)
+row-start layout sample first i = omega arith
+
+pub row-inside : {numbers : List Float} {layout : Layout} {p : Position} {joints : Joints} {low high i : ℕ} → Sampled numbers layout p → InBlock layout joints
+    → low ≡ poseStart layout (p .first) (joints .first) → high ≡ poseStart layout (p .second) (joints .first) → i < joints .count
+    → (low + 8 * i + 8 ≤ length numbers) × (high + 8 * i + 8 ≤ length numbers)
+row-inside {p = p} {joints = joints} {i = i} s block el eh h =
+    rw (el, eh, row-start _ (p .first) (joints .first) i, row-start _ (p .second) (joints .first) i) (joint-inside s (omega (arith, h, block .inside)))
+
 -- ---- a joint's pose between them
 
-pub between-clip : {plan : List ℕ} {numbers : List Float} {layout : Layout} {p : Position} (c : ℕ) (position : Float) → Playable plan numbers layout → p ≡ samplesAt plan c position
+pub between-clip : {plan : List ℕ} {numbers : List Float} {layout : Layout} {p : Position} (c : ℕ) (position : Float) → Playable plan numbers layout → p ≡ samplesAt (clipOf plan numbers c) position
     → (j : ℕ) → poseBetween numbers layout p j ≡ poseAt plan numbers c j position
-unfolding poseBetween poseAt samplesAt layoutOf poseFrom samplePose number numberAt
+unfolding poseBetween poseAt clipOf samplesAt layoutOf poseFrom samplePose number numberAt
 between-clip c position ok found j = rw (ok .found, found)

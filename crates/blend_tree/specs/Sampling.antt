@@ -4,19 +4,28 @@ use mathlib.Core.Path.{_≡_}
 use mathlib.Core.List.{List}
 use lib.Ieee.{Float}
 use Rattle.model.specs.declared.Pose.{Pose}
+use Rattle.model.specs.declared.ClipInstance.{ClipInstance}
+use Rattle.model.specs.Numbers.{_*₃₂_}
 use Rattle.model.specs.Pose.{lerp}
-use Rattle.model.specs.Plan.{clipCount, sampleCount, samplesBefore}
-use Rattle.model.specs.Clips.{firstIndex, secondIndex, factor}
+use Rattle.model.specs.Plan.{clipCount, sampleCount, samplesBefore, number, Rate}
+use Rattle.model.specs.Clips.{localTime, firstIndex, secondIndex, factor}
 use Rattle.layout.specs.declared.Layout.{Layout}
 use Rattle.animation.specs.declared.Position.{Position}
 use Rattle.animation.specs.Sampling.{poseFrom}
+use Rattle.blend_tree.specs.declared.sampling.Clip.{Clip}
 use Rattle.blend_tree.specs.Blocks.{Playable}
 
--- on either side of a position of clip c
-unfoldable pub samplesAt : List ℕ → ℕ → Float → Position
-samplesAt plan c position =
-    let n = sampleCount plan c in
-    record { first = samplesBefore plan c + firstIndex n position; second = samplesBefore plan c + secondIndex n position; factor = factor position }
+unfoldable pub clipOf : List ℕ → List Float → ℕ → Clip
+clipOf plan numbers c = record { samples = sampleCount plan c; before = samplesBefore plan c; rate = number plan numbers (Rate c) }
+
+-- where an instance of a clip is at a time
+abbrev pub positionAt : Clip → ClipInstance → Float → Float
+positionAt clip instance time = localTime instance time *₃₂ clip .rate
+
+-- on either side of a position
+unfoldable pub samplesAt : Clip → Float → Position
+samplesAt clip position =
+    record { first = clip .before + firstIndex (clip .samples) position; second = clip .before + secondIndex (clip .samples) position; factor = factor position }
 
 -- where a sample's pose of joint j begins
 abbrev pub poseStart : Layout → ℕ → ℕ → ℕ
@@ -32,4 +41,4 @@ pub record Sampled (numbers : List Float) (layout : Layout) (samples : Position)
   pub position : Float
   pub playable : Playable plan numbers layout
   pub clip : c < clipCount plan
-  pub found : samples ≡ samplesAt plan c position
+  pub found : samples ≡ samplesAt (clipOf plan numbers c) position

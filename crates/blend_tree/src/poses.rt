@@ -2,18 +2,21 @@
 use crate::Joints;
 use crate::SLOTS;
 use crate::StateAt;
+use crate::sampling::clip_at;
 use crate::sampling::clip_samples;
-use crate::sampling::joint_pose;
 use animation::Position;
 use animation::instance_at;
+use animation::pose_between;
 use lanes::BLOCK_FLOATS;
 use lanes::lane;
 use lanes::set_lane;
 use layout::Layout;
 use layout::node_at;
+use layout::pose_at;
 use model::Pose;
 use model::limits::MAX_INSTANCES;
 use model::limits::MAX_PARAMETERS;
+use model::limits::POSE_FLOATS;
 use transform::concat;
 use transform::identity;
 use transform::lerp;
@@ -55,7 +58,7 @@ pub fn combine_all(
     }
 }
 
-// A clip, between two of its samples.
+// A clip, between two of its samples, whose places are worked out once: with `joint_pose` in each lane some sizes are slower by a sixth.
 fn clip_poses(
     numbers: &[f32],
     layout: Layout,
@@ -66,13 +69,13 @@ fn clip_poses(
     requires { ⌜ Sampled (now numbers) layout samples × InBlock layout joints ⌝ }
     ensures { λ _. ⌜ Filled (λ i. poseBetween (now (numbers .entry)) layout samples (joints .first + i)) (joints .count) (now (block .exit)) ⌝ }
 {
+    let low = pose_at(layout, samples.first, joints.first);
+    let high = pose_at(layout, samples.second, joints.first);
+    let factor = samples.factor;
     let mut i = 0;
     while i < joints.count {
-        set_lane(
-            block,
-            i,
-            joint_pose(numbers, layout, samples, joints.first + i),
-        );
+        let at = POSE_FLOATS * i;
+        set_lane(block, i, pose_between(numbers, low + at, high + at, factor));
         i += 1;
     }
 }
@@ -95,7 +98,8 @@ fn node_poses(
     let words = node_at(plan, state.here, node);
     if words.kind == 0 {
         let instance = instance_at(instances, slots[node] as usize);
-        let samples = clip_samples(plan, numbers, state.layout, words.a, instance, state.time);
+        let clip = clip_at(plan, numbers, state.layout, words.a);
+        let samples = clip_samples(clip, instance, state.time);
         clip_poses(numbers, state.layout, samples, joints, block);
         return;
     }

@@ -27,7 +27,6 @@ use Rattle.blend_tree.specs.declared.Joints.{Joints}
 use Rattle.blend_tree.specs.Blocks.{Filled, Playable, InBlock, Slots}
 use Rattle.blend_tree.proofs.NodeLaws.{passes}
 use Rattle.skeleton.specs.Buffer.{GlobalPoses, jointsWritten}
-use Rattle.output_pose.specs.declared.Showing.{Showing}
 use Rattle.output_pose.specs.declared.Blend.{Blend}
 use Rattle.output_pose.specs.declared.Blend.the-variants.{Alone, Towards}
 use Rattle.output_pose.specs.Shown.{skeletonOf, poseAt, shownPose, TargetReady, Ready, StateShown, TargetSynchronized, Blended, Shown}
@@ -56,11 +55,11 @@ module _ (plan : List ℕ) (numbers parameters current instances : List Float) (
   pose-towards e = rw e
 
 -- the other state is one of the plan's
-pub target-known : {plan : List ℕ} {numbers : List Float} {shown : Showing} {slots targetSlots : List ℕ} {joints : Joints} {there : StateAt} {factor : Float}
-    → Ready plan numbers shown slots targetSlots → InBlock (shown .state .layout) joints → shown .blend ≡ Towards there factor
+pub target-known : {plan : List ℕ} {numbers : List Float} {state : StateAt} {blend : Blend} {slots targetSlots : List ℕ} {joints : Joints} {there : StateAt} {factor : Float}
+    → Ready plan numbers state blend slots targetSlots → InBlock (state .layout) joints → blend ≡ Towards there factor
     → Playable plan numbers (there .layout) × InPlan plan (there .here) × Slots plan (there .here .state) targetSlots × InBlock (there .layout) joints
 unfolding TargetReady
-target-known {plan} {numbers} {shown} {slots} {targetSlots} r i e =
+target-known r i e =
     let t = rw e at (r .target) in
     rw (t .0) (r .playable, t .1, t .2, i)
 
@@ -106,16 +105,16 @@ unfolding isTargetBelow
 target-below n t start duration target e h = ltb-true _ _ (rw e at h)
 
 -- a state on its way to another that was synchronised
-module _ {plan : List ℕ} {numbers : List Float} {state : StateAt} {target : ℕ} {factor : Float} {parameters : List Float} {targetSlots : List ℕ} {before after : List Float} {r : Showing} where
+module _ {plan : List ℕ} {numbers : List Float} {state : StateAt} {target : ℕ} {factor : Float} {parameters : List Float} {targetSlots : List ℕ} {before after : List Float} {r : Blend} where
   pub ready-towards : {slots : List ℕ} → Playable plan numbers (state .layout) → InPlan plan (state .here) → Slots plan (state .here .state) slots
-      → TargetSynchronized plan numbers state target factor parameters targetSlots before after r → Ready plan numbers r slots targetSlots
-  ready-towards ok inside filled t = rw (t .shown) (record { playable = ok; inside = inside; filled = filled; target = t .ready })
+      → TargetSynchronized plan numbers state target factor parameters targetSlots before after r → Ready plan numbers state r slots targetSlots
+  ready-towards ok inside filled t = rw (t .blend) (record { playable = ok; inside = inside; filled = filled; target = t .ready })
 
   pub blended-to : {old new : List Float} → TargetSynchronized plan numbers state target factor parameters targetSlots before after r
-      → new ≡ skeletonOf plan (λ j. shownPose plan numbers parameters before after j (r .state) (r .blend)) old
+      → new ≡ skeletonOf plan (λ j. shownPose plan numbers parameters before after j state r) old
       → Blended plan numbers (state .time) factor (state .here .state) target parameters before after old new
   unfolding shownPose
-  blended-to t e = record { instances = t .instances; output = rw (t .shown, t .number, t .time) at e }
+  blended-to t e = record { instances = t .instances; output = rw (t .blend, t .number, t .time) at e }
 
 module _ (plan : List ℕ) (numbers : List Float) (time instant : Float) (state : ℕ) (parameters before old : List Float) where
   pub shown-idle : (t : Transition) (after new : List Float) → t ≡ Idle → StateShown plan numbers time state parameters before after old new

@@ -15,7 +15,6 @@ use Rattle.layout.specs.declared.Layout.{Layout}
 use Rattle.layout.specs.Layout.{InPlan}
 use Rattle.blend_tree.specs.declared.StateAt.{StateAt}
 use Rattle.blend_tree.specs.Blocks.{Playable, Slots}
-use Rattle.output_pose.specs.declared.Showing.{Showing}
 use Rattle.output_pose.specs.declared.Blend.{Blend}
 use Rattle.output_pose.specs.declared.Blend.the-variants.{Alone, Towards}
 
@@ -40,11 +39,11 @@ unfoldable pub TargetReady : List ℕ → Layout → List ℕ → Blend → Type
 TargetReady plan layout slots Alone = Unit
 TargetReady plan layout slots (Towards there factor) = (there .layout ≡ layout) × InPlan plan (there .here) × Slots plan (there .here .state) slots
 
-pub record Ready (plan : List ℕ) (numbers : List Float) (shown : Showing) (slots targetSlots : List ℕ) : Type 0 where
-  pub playable : Playable plan numbers (shown .state .layout)
-  pub inside : InPlan plan (shown .state .here)
-  pub filled : Slots plan (shown .state .here .state) slots
-  pub target : TargetReady plan (shown .state .layout) targetSlots (shown .blend)
+pub record Ready (plan : List ℕ) (numbers : List Float) (state : StateAt) (blend : Blend) (slots targetSlots : List ℕ) : Type 0 where
+  pub playable : Playable plan numbers (state .layout)
+  pub inside : InPlan plan (state .here)
+  pub filled : Slots plan (state .here .state) slots
+  pub target : TargetReady plan (state .layout) targetSlots blend
 
 -- ---- what is shown
 
@@ -57,10 +56,10 @@ pub record StateShown (plan : List ℕ) (numbers : List Float) (time : Float) (s
   pub instances : after ≡ synchronize plan numbers parameters time state before
   pub output : new ≡ skeletonOf plan (statePose plan numbers parameters time state after) old
 
--- a target is synchronised on top of `before`, and r shows the state, blended towards it by a factor
-pub record TargetSynchronized (plan : List ℕ) (numbers : List Float) (state : StateAt) (target : ℕ) (factor : Float) (parameters : List Float) (slots : List ℕ) (before after : List Float) (r : Showing) : Type 0 where
+-- a target is synchronised on top of `before`, and r blends the state towards it by a factor
+pub record TargetSynchronized (plan : List ℕ) (numbers : List Float) (state : StateAt) (target : ℕ) (factor : Float) (parameters : List Float) (slots : List ℕ) (before after : List Float) (r : Blend) : Type 0 where
   pub there : StateAt
-  pub shown : r ≡ record { state = state; blend = Towards there factor }
+  pub blend : r ≡ Towards there factor
   pub ready : TargetReady plan (state .layout) slots (Towards there factor)
   pub number : there .here .state ≡ target
   pub time : there .time ≡ state .time

@@ -5,6 +5,7 @@ use blend_tree::SLOTS;
 use blend_tree::StateAt;
 use blend_tree::poses::combine_all;
 use blend_tree::poses::state_poses;
+use blend_tree::sampling::clip_at;
 use blend_tree::sampling::clip_samples;
 use blend_tree::sampling::joint_pose;
 use blend_tree::synchronize::synchronize_state;
@@ -36,18 +37,14 @@ pub enum Blend {
     Towards { there: StateAt, factor: f32 },
 }
 
-pub struct Showing {
-    pub state: StateAt,
-    pub blend: Blend,
-}
-
 // ---- evaluating
 
 // The poses of a row of joints. Each state has its own slots and instances: `current` are those of the first.
 pub fn shown_poses(
     plan: &[u16],
     numbers: &[f32],
-    shown: Showing,
+    state: StateAt,
+    blend: Blend,
     parameters: &[f32; MAX_PARAMETERS],
     slots: &[u8; SLOTS],
     there_slots: &[u8; SLOTS],
@@ -56,20 +53,19 @@ pub fn shown_poses(
     joints: Joints,
     block: &mut [f32; BLOCK_FLOATS],
 )
-    requires { ⌜ Ready (now plan) (now numbers) shown (now slots) (now «there_slots») × InBlock (shown .state .layout) joints ⌝ }
-    ensures { λ _. ⌜ Filled (λ i. shownPose (now (plan .entry)) (now (numbers .entry)) (now (parameters .entry)) (now (current .entry)) (now (instances .entry)) (joints .first + i) (shown .state) (shown .blend)) (joints .count) (now (block .exit)) ⌝ }
+    requires { ⌜ Ready (now plan) (now numbers) state blend (now slots) (now «there_slots») × InBlock (state .layout) joints ⌝ }
+    ensures { λ _. ⌜ Filled (λ i. shownPose (now (plan .entry)) (now (numbers .entry)) (now (parameters .entry)) (now (current .entry)) (now (instances .entry)) (joints .first + i) state blend) (joints .count) (now (block .exit)) ⌝ }
 {
     state_poses(
         plan,
         numbers,
-        shown.state,
+        state,
         parameters,
         slots,
         current,
         joints,
         block,
     );
-    let blend = shown.blend;
     let Blend::Towards { there, factor } = blend else {
         return;
     };
@@ -102,7 +98,8 @@ fn block_length(joints: usize, first: usize) -> usize
 fn show_blocks(
     plan: &[u16],
     numbers: &[f32],
-    shown: Showing,
+    state: StateAt,
+    blend: Blend,
     parameters: &[f32; MAX_PARAMETERS],
     slots: &[u8; SLOTS],
     there_slots: &[u8; SLOTS],
@@ -110,10 +107,10 @@ fn show_blocks(
     instances: &[f32; MAX_INSTANCES],
     output: &mut [f32],
 )
-    requires { ⌜ Ready (now plan) (now numbers) shown (now slots) (now «there_slots») × (outputAt (jointCount (now plan)) ≤ length (now output)) ⌝ }
-    ensures { λ _. ⌜ now (output .exit) ≡ skeletonOf (now (plan .entry)) (λ j. shownPose (now (plan .entry)) (now (numbers .entry)) (now (parameters .entry)) (now (current .entry)) (now (instances .entry)) j (shown .state) (shown .blend)) (now (output .entry)) ⌝ }
+    requires { ⌜ Ready (now plan) (now numbers) state blend (now slots) (now «there_slots») × (outputAt (jointCount (now plan)) ≤ length (now output)) ⌝ }
+    ensures { λ _. ⌜ now (output .exit) ≡ skeletonOf (now (plan .entry)) (λ j. shownPose (now (plan .entry)) (now (numbers .entry)) (now (parameters .entry)) (now (current .entry)) (now (instances .entry)) j state blend) (now (output .entry)) ⌝ }
 {
-    let total = shown.state.layout.joints;
+    let total = state.layout.joints;
     let mut block = [0.0f32; BLOCK_FLOATS];
     let mut first = 0;
     while first < total {
@@ -121,7 +118,8 @@ fn show_blocks(
         shown_poses(
             plan,
             numbers,
-            shown,
+            state,
+            blend,
             parameters,
             slots,
             there_slots,
@@ -148,7 +146,11 @@ pub fn show_joint(
 {
     let clip = node_at(plan, state.here, 0).a;
     let instance = instance_at(instances, state.here.clip_node);
-    let samples = clip_samples(plan, numbers, state.layout, clip, instance, state.time);
+    let samples = clip_samples(
+        clip_at(plan, numbers, state.layout, clip),
+        instance,
+        state.time,
+    );
     calculate_root_pose(joint_pose(numbers, state.layout, samples, 0), output);
 }
 
@@ -160,7 +162,7 @@ fn transition_factor(instant: f64, start: f64, duration: f32) -> f32
     narrow((instant - start) / widen(duration))
 }
 
-// The target of a transition that has come so far is synchronised too; what is then to be shown.
+// The target of a transition that has come so far is synchronised too; what then becomes of the state's poses.
 pub fn synchronize_target(
     plan: &[u16],
     numbers: &[f32],
@@ -170,7 +172,7 @@ pub fn synchronize_target(
     parameters: &[f32; MAX_PARAMETERS],
     there_slots: &mut [u8; SLOTS],
     instances: &mut [f32; MAX_INSTANCES],
-) -> Showing
+) -> Blend
     requires { ⌜ Playable (now plan) (now numbers) (state .layout) × (target < stateCount (now plan)) ⌝ }
     ensures { λ r. ⌜ TargetSynchronized (now (plan .entry)) (now (numbers .entry)) state target factor (now (parameters .entry)) (now («there_slots» .exit)) (now (instances .entry)) (now (instances .exit)) r ⌝ }
 {
@@ -179,8 +181,7 @@ pub fn synchronize_target(
     let time = state.time;
     let there = StateAt { layout, here, time };
     synchronize_state(plan, numbers, there, parameters, there_slots, instances);
-    let blend = Blend::Towards { there, factor };
-    Showing { state, blend }
+    Blend::Towards { there, factor }
 }
 
 // A state on its way to another. It shows itself by the instances that it had before the other's rates were set, as the Rust does.
@@ -200,7 +201,7 @@ fn show_transition(
 {
     let current = *instances;
     let mut there_slots = [0u8; SLOTS];
-    let shown = synchronize_target(
+    let blend = synchronize_target(
         plan,
         numbers,
         state,
@@ -213,7 +214,8 @@ fn show_transition(
     show_blocks(
         plan,
         numbers,
-        shown,
+        state,
+        blend,
         parameters,
         slots,
         &there_slots,
@@ -246,11 +248,11 @@ pub fn show(
     } = transition
     else {
         let blend = Blend::Alone;
-        let shown = Showing { state, blend };
         show_blocks(
             plan,
             numbers,
-            shown,
+            state,
+            blend,
             parameters,
             &slots,
             &slots,

@@ -19,7 +19,7 @@ ghost use Rattle.model.specs.Text.{maxWord};
 ghost use Rattle.model.specs.Plan.{maxJoints, jointCount, parentAt, parent, isRoot, outputAt};
 ghost use Rattle.model.specs.Skeleton.{pageMatrix};
 ghost use Rattle.layout.specs.Layout.{Passes};
-ghost use Rattle.lanes.specs.Lanes.{blockSize, laneAt};
+ghost use Rattle.lanes.specs.Lanes.{blockSize};
 ghost use Rattle.skeleton.specs.Buffer.{rowFrom, matrixFrom, rowFloats, stored, parentIn, GlobalPoses, Paged};
 
 // Where joint j's matrix begins in the output.

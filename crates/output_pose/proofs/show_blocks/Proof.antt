@@ -10,11 +10,11 @@ use Rattle.output_pose.proofs.show_blocks.Statement.{statement}
 use Rattle.output_pose.proofs.show_blocks.Tie as tie
 
 abbrev Inv-loop : tie.InvT-loop
-Inv-loop plan numbers shown parameters slots there-slots current instances output₀ total block₀ first₀ output block first =
-    Through plan (shown .state .layout) (λ j. shownPose plan numbers parameters current instances j (shown .state) (shown .blend)) output₀ output first
+Inv-loop plan numbers state blend parameters slots there-slots current instances output₀ total block₀ first₀ output block first =
+    Through plan (state .layout) (λ j. shownPose plan numbers parameters current instances j state blend) output₀ output first
 
 abbrev μ-loop : tie.MeasureT-loop
-μ-loop plan numbers shown parameters slots there-slots current instances output₀ total block₀ first₀ output block first = shown .state .layout .joints - first
+μ-loop plan numbers state blend parameters slots there-slots current instances output₀ total block₀ first₀ output block first = state .layout .joints - first
 
 add-first : tie.Need-add-first Inv-loop μ-loop
 add-first c =

@@ -9,6 +9,7 @@ use Rattle.model.specs.Plan.{jointCount, clipCount}
 use Rattle.model.specs.Tree.{statePose}
 use Rattle.layout.proofs.Laws.{joints-found}
 use Rattle.blend_tree.proofs.NodeLaws.{passes, clip-inside}
+use Rattle.blend_tree.proofs.SamplingLaws.{clip-sized, sampled}
 use Rattle.output_pose.proofs.JointLaws.{only-clip, instance-there, only-pose, joint-shown}
 use Rattle.output_pose.proofs.show_joint.Statement.{statement}
 use Rattle.output_pose.proofs.show_joint.Tie as tie
@@ -27,37 +28,44 @@ clip-there n =
 instance-at-requires : tie.Need-instance-at-requires
 instance-at-requires c κs = let p = start c .pre in instance-there (p .0) (p .1) (p .3)
 
+clip-at-requires : tie.Need-clip-at-requires
+clip-at-requires c κs = (start (c .before) .pre .0, clip-there (c .before))
+
 clip-samples-requires : tie.Need-clip-samples-requires
-clip-samples-requires c κs = (start (c .before) .pre .0, clip-there (c .before))
+clip-samples-requires c κs =
+    let n = c .before .before in
+    clip-sized (start n .pre .0) (clip-there n) (c .clip-at .ensures)
 
 joint-pose-requires : tie.Need-joint-pose-requires
 joint-pose-requires c κs =
-    let n = c .before .before in
-    let s = start n in
-    (record { plan = s .args .plan .now; c = _; position = _; playable = s .pre .0; clip = clip-there n; found = c .clip-samples .ensures }, omega (arith, s .pre .2))
+    let k = c .before in
+    let n = k .before .before in
+    let p = start n .pre in
+    (sampled (p .0) (clip-there n) _ (k .clip-at .ensures) (c .clip-samples .ensures), omega (arith, p .2))
 
 calculate-root-pose-requires : tie.Need-calculate-root-pose-requires
 calculate-root-pose-requires c κs =
-    let n = c .before .before .before .before in
+    let n = c .before .before .before .before .before in
     omega (arith, one-joint n, start n .pre .4)
 
 -- the pose, whatever the parameters are
 shown : (c : tie.After-joint-pose)
-    → let a = start (c .before .before .before) .args in
+    → let a = start (c .before .before .before .before) .args in
     (parameters : List Float) → c .joint-pose .result ≡ statePose (a .plan .now) (a .numbers .now) parameters (a .state .time) (a .state .here .state) (a .instances .now) 0
 shown c parameters =
     let p = c .before in
-    let n = p .before .before in
+    let k = p .before in
+    let n = k .before .before in
     let r = start n .pre in
-    c .joint-pose .ensures ∙ only-pose (r .0) (r .1) (r .3) (n .node-at .ensures) _ _ (p .before .instance-at .ensures) (p .clip-samples .ensures) parameters 0
+    c .joint-pose .ensures ∙ only-pose (r .0) (r .1) (r .3) (n .node-at .ensures) _ _ (k .before .instance-at .ensures) (k .clip-at .ensures) (p .clip-samples .ensures) parameters 0
 
 returns : tie.Need-returns
 returns c =
     let d = c .before .before in
     let j = d .before .before in
-    joint-shown _ _ _ _ _ _ _ _ (one-joint (j .before .before .before)) (shown j) (d .calculate-root-pose .ensures)
+    joint-shown _ _ _ _ _ _ _ _ (one-joint (j .before .before .before .before)) (shown j) (d .calculate-root-pose .ensures)
 
 pub show-joint-spec : {M : Type 1} → statement M
 show-joint-spec =
     tie.close
-    (tie.spec (λ c κs. search needs) instance-at-requires clip-samples-requires joint-pose-requires calculate-root-pose-requires (search needs) returns)
+    (tie.spec (λ c κs. search needs) instance-at-requires clip-at-requires clip-samples-requires joint-pose-requires calculate-root-pose-requires (search needs) returns)

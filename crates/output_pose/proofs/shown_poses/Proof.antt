@@ -17,7 +17,7 @@ returns c i h =
     let x = m .before in
     let a = x .before .before .before .before .args in
     x .state-poses .ensures i h
-    ∙ pose-alone (a .plan .now) (a .numbers .now) (a .parameters .now) (a .current .now) (a .instances .now) (a .joints .first + i) (a .shown .state) (is-alone _ (m .match .keys2))
+    ∙ pose-alone (a .plan .now) (a .numbers .now) (a .parameters .now) (a .current .now) (a .instances .now) (a .joints .first + i) (a .state) (is-alone _ (m .match .keys2))
 
 state-poses-requires-2 : tie.Need-state-poses-requires-2
 state-poses-requires-2 c κs =
@@ -32,7 +32,7 @@ returns-2 c i h =
     let x = b .before .before in
     let a = x .before .before .before .before .args in
     blended _ _ _ _ _ _ _ (x .state-poses .ensures) (y .state-poses2 .ensures) (c .combine-all .ensures) i h
-    ∙ pose-towards (a .plan .now) (a .numbers .now) (a .parameters .now) (a .current .now) (a .instances .now) (a .joints .first + i) (a .shown .state) (b .blend .given .1)
+    ∙ pose-towards (a .plan .now) (a .numbers .now) (a .parameters .now) (a .current .now) (a .instances .now) (a .joints .first + i) (a .state) (b .blend .given .1)
 
 pub shown-poses-spec : {M : Type 1} → statement M
 shown-poses-spec =

@@ -20,7 +20,7 @@ returns c =
     let same = same-state _ _ (l .state-layout .ensures) in
     record {
       there = _;
-      shown = refl;
+      blend = refl;
       ready = (refl, in-plan _ _ (l .state-layout .ensures) (p .1), c .synchronize-state .ensures .0);
       number = same;
       time = refl;

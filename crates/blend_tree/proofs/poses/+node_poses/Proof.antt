@@ -12,7 +12,9 @@ use Rattle.model.specs.Clips.{instanceAt}
 use Rattle.animation.proofs.instance_at.Reads as instance-at-reads
 use Rattle.layout.proofs.node_at.Reads as node-at-reads
 use Rattle.blend_tree.proofs.NodeLaws.{passes, node-small, slot-found, slot-small, NodeRead, is-clip, no-clip, clip-inside, inputs-before, parameter-small}
+use Rattle.blend_tree.proofs.SamplingLaws.{clip-sized, sampled}
 use Rattle.blend_tree.proofs.PoseLaws.{of-clip, of-inputs}
+use Rattle.blend_tree.proofs.sampling.clip_at.Reads as clip-at-reads
 use Rattle.blend_tree.proofs.sampling.clip_samples.Reads as clip-samples-reads
 use Rattle.blend_tree.proofs.poses.clip_poses.Reads as clip-poses-reads
 use Rattle.blend_tree.proofs.poses.combine_all.Reads as combine-all-reads
@@ -38,6 +40,8 @@ claims t = (
   node-at-reads.Learnt,
   instance-at-reads.Asked,
   instance-at-reads.Learnt,
+  clip-at-reads.Asked,
+  clip-at-reads.Learnt,
   clip-samples-reads.Asked,
   clip-samples-reads.Learnt,
   clip-poses-reads.Asked,
@@ -76,26 +80,33 @@ module _ (t : ℕ) where
       let k = i .before .before in
       clip-inside (read k) (is-clip _ _ _ (k .node-at .ensures) (i .if1 .taken))
 
+  clip-at-requires : lts.Need-clip-at-requires (claims t) (node-poses-at t) reads.Post
+  clip-at-requires c κs = (start (c .before .before .before .before) .pre .1 .0, clip-there c)
+
   clip-samples-requires : lts.Need-clip-samples-requires (claims t) (node-poses-at t) reads.Post
-  clip-samples-requires c κs = (start (c .before .before .before .before) .pre .1 .0, clip-there c)
+  clip-samples-requires c κs =
+      let i = c .before in
+      clip-sized (start (i .before .before .before .before) .pre .1 .0) (clip-there i) (c .clip-at .ensures)
 
   clip-poses-requires : lts.Need-clip-poses-requires (claims t) (node-poses-at t) reads.Post
   clip-poses-requires c κs =
-      let i = c .before .before in
+      let k = c .before .before in
+      let i = k .before in
       let s = start (i .before .before .before .before) in
       let r = s .pre .1 in
-      (record { plan = s .args .plan .now; c = _; position = _; playable = r .0; clip = clip-there i; found = c .before .clip-samples .ensures }, r .3)
+      (sampled (r .0) (clip-there i) _ (k .clip-at .ensures) (c .before .clip-samples .ensures), r .3)
 
   returns : lts.Need-returns (claims t) (node-poses-at t) reads.Post
   returns c j h =
       let q = c .before .before in
-      let i = q .before .before .before in
+      let v = q .before .before in
+      let i = v .before .before in
       let k = i .before .before in
       let s = start k in
       let r = s .pre .1 in
       c .clip-poses .ensures j h
       ∙ of-clip (read k) (s .args .numbers .now) (s .args .parameters .now) (s .args .state .time) (s .args .instances .now) (s .args .joints .first + j) (r .0) (i .if1 .taken)
-      (q .before .instance-at .ensures ∙ ap (instanceAt (s .args .instances .now)) (slot-found (passes (r .0)) (r .1) (r .4) (r .2))) (q .clip-samples .ensures)
+      (v .instance-at .ensures ∙ ap (instanceAt (s .args .instances .now)) (slot-found (passes (r .0)) (r .1) (r .4) (r .2))) (q .before .clip-at .ensures) (q .clip-samples .ensures)
 
   node-poses-requires : lts.Need-node-poses-requires (claims t) (node-poses-at t) reads.Post
   node-poses-requires c κs =
@@ -137,6 +148,7 @@ pub +node-poses-spec : {M : Type 1} → statement M
     (λ c. omega (arith, small t (c .before .before)))
     (λ c. omega (arith, instance-there t c))
     (λ c κs. instance-there t c)
+    (clip-at-requires t)
     (clip-samples-requires t)
     (clip-poses-requires t)
     (returns t)
