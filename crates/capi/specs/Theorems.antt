@@ -8,15 +8,12 @@ use lib.Ieee.{Float}
 use borrow.Author.Tests.{le-leb}
 use Rattle.model.specs.Plan.{maxPlan}
 use Rattle.model.specs.Text.{Reading, bad, got, readFigure, textVerdict}
+use Rattle.model.specs.Program.{numberBytes}
 use Rattle.model.specs.Laws.Reading.{figure-fits}
 use Rattle.round_trip.specs.Theorems.{words-most}
 use Rattle.flat.specs.declared.FlatTextAnswer.{FlatTextAnswer}
 use Rattle.flat.specs.Flat.{flatTextAnswer}
 use Rattle.flat.specs.FlatPromises.{FlatTextRead}
-
--- of a number in a text: a comma and eight digits
-abbrev pub numberBytes : ℕ
-numberBytes = 9
 
 module _ (text : List ℕ) (w n : ℕ) (words-room : maxPlan ≤ w) (numbers-room : length text / numberBytes ≤ n) where
   never-short : (x : Reading) → readFigure text ≡ x → flatTextAnswer (textVerdict x w n) .number ≡ 12 → ⊥

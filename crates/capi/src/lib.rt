@@ -13,12 +13,13 @@ use layout::JOINT_COUNT_AT;
 use layout::MAX_PLAN;
 use layout::word;
 use model::FrameKind;
+use model::limits::NUMBER_BYTES;
 use skeleton::output_at;
 ghost use mathlib.Core.Path.{_≡_};
 ghost use Prim.Native.Nat.{_/_};
 ghost use Rattle.model.specs.declared.FrameKind.the-variants as Kind;
 ghost use Rattle.model.specs.Plan.{maxPlan, jointCount, outputAt};
-ghost use Rattle.capi.specs.Theorems.{numberBytes};
+ghost use Rattle.model.specs.Program.{numberBytes};
 ghost use Rattle.flat.specs.FlatPromises.{FlatStarted, FlatUpdated, FlatSpeedSet, FlatParameterSet, FlatFramed, FlatTextRead};
 
 // ---- start, update, speed, set
@@ -144,9 +145,6 @@ pub extern "C" fn gentianlathe_read_text(
 }
 
 // ---- sizes
-
-// Of a number in a text: a comma and eight digits.
-const NUMBER_BYTES: usize = 9;
 
 // In bytes, for a host to hold its own struct to.
 #[no_mangle]

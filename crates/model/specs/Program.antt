@@ -80,9 +80,12 @@ printedFrom (got ws bs rest n) = played ws (floatsOf bs) (startVerdict ws (float
 abbrev pub maxText : ℕ
 maxText = 65536
 
--- a number takes a comma and eight digits
+-- a number in a text: a comma and eight digits
+abbrev pub numberBytes : ℕ
+numberBytes = 9
+
 abbrev pub maxNumbers : ℕ
-maxNumbers = maxText / 9
+maxNumbers = maxText / numberBytes
 
 -- the whole program: 13, then the reader's, then the start's
 unfoldable pub printed : List ℕ → List ℕ

@@ -40,5 +40,7 @@ pub const MAX_INSTANCES: usize = INSTANCE_FLOATS * MAX_CLIP_NODES;
 // Of the longest output.
 pub const MAX_OUTPUT: usize = MATRIX_FLOATS * MAX_JOINTS;
 
-// Of the longest text: a comma and eight digits each.
-pub const MAX_NUMBERS: usize = MAX_TEXT / 9;
+// The numbers of the longest text, and the bytes of one: a comma and eight digits.
+pub const NUMBER_BYTES: usize = 9;
+
+pub const MAX_NUMBERS: usize = MAX_TEXT / NUMBER_BYTES;

@@ -8,7 +8,7 @@ use lib.ListN.{length}
 use lib.Dec.{ltb}
 use borrow.Author.Tests.{ltb-true, eqb-true}
 use Rattle.model.specs.Answers.{accepted, each}
-use Rattle.model.specs.Plan.{maxJoints, maxClips, maxStates, maxSamples, maxTransitions, jointCount, clipCount, parameterCount, stateCount, initialState, initialStateAt, parentAt, parent, isRoot, sampleCountAt, sampleCount, nodeCount, clipNodesAmong, clipNodesBefore, transitionCount, transitionsBefore, numbersLength}
+use Rattle.model.specs.Plan.{maxJoints, maxClips, maxParameters, maxStates, maxSamples, maxTransitions, jointCount, clipCount, parameterCount, stateCount, initialState, initialStateAt, parentAt, parent, isRoot, sampleCountAt, sampleCount, nodeCount, clipNodesAmong, clipNodesBefore, transitionCount, transitionsBefore, numbersLength}
 use Rattle.model.specs.Check.{check, checkHeader, checkParent, checkSampleCount, checkState}
 use Rattle.model.specs.Laws.Header as header
 use Rattle.model.specs.Laws.Answers.{then-left, then-right, each-at, require-true}
@@ -70,7 +70,7 @@ module _ (plan : List ℕ) (n : ℕ) (ok : check plan n ≡ accepted) where
   pub few-states : stateCount plan ≤ maxStates
   few-states = header.few-states plan header-passed
 
-  pub few-parameters : parameterCount plan ≤ 32
+  pub few-parameters : parameterCount plan ≤ maxParameters
   few-parameters = header.few-parameters plan header-passed
 
   pub parent-there : (j : ℕ) → j < jointCount plan → parentAt j < length plan

@@ -168,24 +168,26 @@ least-bytes [] = refl
 least-bytes (Decimal limit ∷ forms) = omega (arith, least-bytes forms, words-count forms (drop 1 []), bits-count forms (drop 1 []))
 least-bytes (Bits ∷ forms) = omega (arith, least-bytes forms, words-count forms (drop 1 []), bits-count forms (drop 1 []))
 
--- no limit is above that of a word
-abbrev allWords : List FieldForm → Bool
-allWords [] = true
-allWords (Decimal limit ∷ forms) = leb limit maxWord && allWords forms
-allWords (Bits ∷ forms) = allWords forms
+-- what holds of each decimal's limit
+abbrev pub EachLimit : (ℕ → Type 0) → List FieldForm → Type 0
+EachLimit P [] = Unit {0}
+EachLimit P (Decimal limit ∷ forms) = P limit × EachLimit P forms
+EachLimit P (Bits ∷ forms) = EachLimit P forms
+
+abbrev pub Words : List FieldForm → Type 0
+Words forms = EachLimit (λ limit. limit ≤ maxWord) forms
 
 -- a value by the form of its field
 abbrev pub Bounded : FieldForm → ℕ → Type 0
-Bounded (Decimal limit) v = (v ≤ limit) × (v < 65536)
+Bounded (Decimal limit) v = (v ≤ limit) × (v ≤ maxWord)
 Bounded Bits v = v < 2 ^ 32
 
-bounded : (forms : List FieldForm) → allWords forms ≡ true → (k v : ℕ) → k < length forms → v ≤ mostOf (getD forms k Bits) → Bounded (getD forms k Bits) v
-bounded [] ok k v h most = absurd (omega arith)
-bounded (Decimal limit ∷ forms) ok zero v h most =
-    (most, omega (arith, most, leb-true limit maxWord (and-left (leb limit maxWord) (allWords forms) ok)))
-bounded (Decimal limit ∷ forms) ok (suc k) v h most = bounded forms (and-right (leb limit maxWord) (allWords forms) ok) k v (omega arith) most
-bounded (Bits ∷ forms) ok zero v h most = omega (arith, most)
-bounded (Bits ∷ forms) ok (suc k) v h most = bounded forms ok k v (omega arith) most
+bounded : (forms : List FieldForm) → Words forms → (k v : ℕ) → k < length forms → v ≤ mostOf (getD forms k Bits) → Bounded (getD forms k Bits) v
+bounded [] words k v h most = absurd (omega arith)
+bounded (Decimal limit ∷ forms) words zero v h most = (most, omega (arith, most, words .0))
+bounded (Decimal limit ∷ forms) words (suc k) v h most = bounded forms (words .1) k v (omega arith) most
+bounded (Bits ∷ forms) words zero v h most = omega (arith, most)
+bounded (Bits ∷ forms) words (suc k) v h most = bounded forms words k v (omega arith) most
 
 pub record LineLaw (kind : LineKind) (s vs rest : List ℕ) : Type 0 where
   pub count : length vs ≡ fieldCount kind
@@ -193,15 +195,15 @@ pub record LineLaw (kind : LineKind) (s vs rest : List ℕ) : Type 0 where
   pub spent : 3 + 2 * length (wordsIn (forms kind) vs) + 9 * length (bitsIn (forms kind) vs) + length rest ≤ length s
 
 -- what the kinds have in common, by looking at each
-limits-small : (kind : LineKind) → allWords (forms kind) ≡ true
+pub words-only : (kind : LineKind) → Words (forms kind)
 unfolding forms
-limits-small Figure = refl
-limits-small Joint = refl
-limits-small Clip = refl
-limits-small State = refl
-limits-small Node = refl
-limits-small Go = refl
-limits-small Pose = refl
+words-only Figure = omega arith
+words-only Joint = omega arith
+words-only Clip = omega arith
+words-only State = omega arith
+words-only Node = omega arith
+words-only Go = omega arith
+words-only Pose = tt
 
 name-of-kind : (kind : LineKind) → leb 2 (length (name kind)) ≡ true
 unfolding name
@@ -217,7 +219,7 @@ line-of-fields : (kind : LineKind) (s vs rest : List ℕ) → FieldsLaw (forms k
 line-of-fields kind s vs rest law =
     record {
       count = law .count;
-      value = λ k h. bounded (forms kind) (limits-small kind) k (getD vs k 0) h (law .most k h);
+      value = λ k h. bounded (forms kind) (words-only kind) k (getD vs k 0) h (law .most k h);
       spent = omega (arith, law .spent, length-drop (length (name kind)) s, least-bytes (forms kind), words-count (forms kind) vs, bits-count (forms kind) vs, leb-true 2 (length (name kind)) (name-of-kind kind));
     }
 

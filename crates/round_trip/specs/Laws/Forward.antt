@@ -11,7 +11,8 @@ use Rattle.model.specs.Text.{maxWord, forms, wordsIn, bitsIn, times, fromState,
 use Rattle.model.specs.Program.{part, lineText, stateText, figureText}
 use Rattle.round_trip.specs.Counted.{Counted}
 use Rattle.round_trip.specs.Laws.Fields.{maxPattern}
-use Rattle.round_trip.specs.Laws.Lines.{EachLimit, most-part, any-within, line-read}
+use Rattle.model.specs.Laws.Text.{EachLimit}
+use Rattle.round_trip.specs.Laws.Lines.{most-part, any-within, line-read}
 use Rattle.round_trip.specs.Laws.Parts.{part-one, spans-one, spans-none}
 use Rattle.round_trip.specs.Laws.Rows.{WithinAt}
 use Rattle.round_trip.specs.Laws.Shape.{numbersAt, goNumbersAt, poseAt, joint-row, clip-row, node-row, go-row, pose-row, joints, clips, counts, nodes, transitions, states, poses, state-text, figure-text, joints-same, clips-same, states-same, samples-same}

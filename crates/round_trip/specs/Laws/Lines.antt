@@ -14,7 +14,7 @@ use Rattle.model.specs.declared.FieldForm.{FieldForm}
 use Rattle.model.specs.declared.FieldForm.the-variants.{Decimal, Bits}
 use Rattle.model.specs.Check.{within}
 use Rattle.model.specs.Laws.Tests.{and-left, and-right}
-use Rattle.model.specs.Laws.Text.{mostOf, field-law, wordCount, bitsCount, words-count, bits-count}
+use Rattle.model.specs.Laws.Text.{mostOf, field-law, EachLimit, Words, words-only, wordCount, bitsCount, words-count, bits-count}
 use Rattle.model.specs.Text.{front, lineFeed, comma, digit, run, baseOf, Field, none, field, fieldIn, maxWord, name, forms, Line, malformed, line, withField, fieldThen, fieldsIn, begins, lineIn, wordsIn, bitsIn, got, fromLine, readLine}
 use Rattle.model.specs.Program.{decimalText, bitsText, decimalFields, bitsFields, part, fieldsText, lineText}
 use Rattle.round_trip.specs.Laws.Fields.{maxPattern, base-few, fieldText, field-read, field-written}
@@ -50,30 +50,11 @@ Within [] ws bs = Unit {0}
 Within (Decimal limit ∷ later) ws bs = (front ws ≤ limit) × Within later (drop 1 ws) bs
 Within (Bits ∷ later) ws bs = (front bs ≤ maxPattern) × Within later ws (drop 1 bs)
 
--- of the decimals
-abbrev pub EachLimit : (ℕ → Type 0) → List FieldForm → Type 0
-EachLimit P [] = Unit {0}
-EachLimit P (Decimal limit ∷ later) = P limit × EachLimit P later
-EachLimit P (Bits ∷ later) = EachLimit P later
-
 -- where they allow any word
 pub any-within : (forms : List FieldForm) (ws bs : List ℕ) → EachLimit (λ limit. maxWord ≤ limit) forms → AtMost maxWord ws → AtMost maxPattern bs → Within forms ws bs
 any-within [] ws bs any h k = tt
 any-within (Decimal limit ∷ later) ws bs any h k = (omega (arith, most-getD maxWord ws 0 h), any-within later (drop 1 ws) bs (any .1) (most-later maxWord ws h) k)
 any-within (Bits ∷ later) ws bs any h k = (most-getD maxPattern bs 0 k, any-within later ws (drop 1 bs) any h (most-later maxPattern bs k))
-
-abbrev Words : List FieldForm → Type 0
-Words forms = EachLimit (λ limit. limit ≤ maxWord) forms
-
-words-only : (kind : LineKind) → Words (forms kind)
-unfolding forms
-words-only Figure = omega arith
-words-only Joint = omega arith
-words-only Clip = omega arith
-words-only State = omega arith
-words-only Node = omega arith
-words-only Go = omega arith
-words-only Pose = tt
 
 -- ---- written, then read
 
