@@ -100,7 +100,9 @@ fn play(
     requires { ⌜ Playable (now plan) (now numbers) layout × (parts .state < stateCount (now plan)) × (isTargetBelow (stateCount (now plan)) (parts .transition) ≡ true) × (outputAt (jointCount (now plan)) ≤ length (now output)) ⌝ }
     ensures { λ r. ⌜ Played (now (plan .entry)) (now (numbers .entry)) (playerOf parts (now (parameters .entry)) (now (instances .entry))) ext (now (output .entry)) (now (output .exit)) (playerOf (moved parts (r .state) (r .transition)) (now (parameters .entry)) (now (instances .exit))) ⌝ }
 {
-    let instant = parts.clock + ext;
+    let clock = parts.clock;
+    let speed = parts.speed;
+    let instant = clock + ext;
     let before = state_layout(plan, layout, parts.state);
     let transition = parts.transition;
     let stepped = step(plan, numbers, before, transition, parameters, instant);
@@ -108,7 +110,7 @@ fn play(
     let state = StateAt {
         layout: layout,
         here: layout_of(plan, layout, before, stepped.state),
-        time: narrow(parts.clock + ext * parts.speed),
+        time: narrow(clock + ext * speed),
     };
     if is_single(layout.joints, state.here.nodes, next) {
         show_joint(plan, numbers, state, instances, output);

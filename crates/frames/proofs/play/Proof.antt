@@ -16,14 +16,14 @@ player s = let a = s .args in playerOf (a .parts) (a .parameters .now) (a .insta
 
 step-requires : tie.Need-step-requires
 step-requires c κs =
-    let s = c .before .before .before .before .before in
+    let s = c .before .before .before .before in
     (passes (s .pre .0), in-plan _ _ (c .state-layout .ensures) (s .pre .1))
 
 layout-of-requires : tie.Need-layout-of-requires
 unfolding nowAt
 layout-of-requires c κs =
     let l = c .before in
-    let s = l .before .before .before .before .before in
+    let s = l .before .before .before .before in
     (passes (s .pre .0), s .pre .0 .found, in-plan _ _ (l .state-layout .ensures) (s .pre .1), still-below _ _ (player s) _ _ _ (l .state-layout .ensures) (c .step .ensures) (s .pre .0 .passed) (s .pre .1) (s .pre .2))
 
 show-joint-requires : tie.Need-show-joint-requires
@@ -31,10 +31,10 @@ unfolding nowAt
 show-joint-requires c κs =
     let x = c .before .before in
     let g = x .before in
-    let h = g .before .before .before .before in
+    let h = g .before .before in
     let t = h .before in
     let l = t .before in
-    let s = l .before .before .before .before .before in
+    let s = l .before .before .before .before in
     let below = still-below _ _ (player s) _ _ _ (l .state-layout .ensures) (t .step .ensures) (s .pre .0 .passed) (s .pre .1) (s .pre .2) in
     let single = g .is-single .ensures (x .if1 .taken) in
     (s .pre .0, in-plan _ _ (h .layout-of .ensures) below, single .0, single .1, s .pre .3)
@@ -46,10 +46,10 @@ returns c =
     let x = w .before .before .before in
     let g = x .before in
     let n = g .before in
-    let h = n .before .before .before in
+    let h = n .before in
     let t = h .before in
     let l = t .before in
-    let s = l .before .before .before .before .before in
+    let s = l .before .before .before .before in
     let below = still-below _ _ (player s) _ _ _ (l .state-layout .ensures) (t .step .ensures) (s .pre .0 .passed) (s .pre .1) (s .pre .2) in
     let single = g .is-single .ensures (x .if1 .taken) in
     let shown = shown-alone (s .pre .0) (in-plan _ _ (h .layout-of .ensures) below) (single .1) _ _ _ _ _ _ _ (single .2) (w .show-joint .ensures) in
@@ -58,10 +58,10 @@ returns c =
 show-requires : tie.Need-show-requires
 unfolding nowAt
 show-requires c κs =
-    let h = c .before .before .before .before .before .before .before in
+    let h = c .before .before .before .before .before in
     let t = h .before in
     let l = t .before in
-    let s = l .before .before .before .before .before in
+    let s = l .before .before .before .before in
     let below = still-below _ _ (player s) _ _ _ (l .state-layout .ensures) (t .step .ensures) (s .pre .0 .passed) (s .pre .1) (s .pre .2) in
     let target = still-target _ _ (player s) _ _ _ (l .state-layout .ensures) (t .step .ensures) (s .pre .0 .passed) (s .pre .1) (s .pre .2) in
     (s .pre .0, in-plan _ _ (h .layout-of .ensures) below, target, s .pre .3)
@@ -71,7 +71,7 @@ unfolding nowAt elapsed
 returns-2 c =
     let w = c .before .before in
     let n = w .before .before .before .before .before in
-    let h = n .before .before .before in
+    let h = n .before in
     let t = h .before in
     let l = t .before in
     played _ _ _ _ _ _ (l .state-layout .ensures) (t .step .ensures) _ (h .layout-of .ensures) _ (n .narrow .ensures) _ _ _ (w .show .ensures)
