@@ -5,17 +5,16 @@ use native.Mathlib.Omega.{arith}
 use mathlib.Core.Path.{_≡_, refl, sym, _∙_}
 use mathlib.Core.Logic.{⊎-elim, inl, inr}
 use mathlib.Core.Bool.{Bool, true, false, cond, not, _||_}
-use mathlib.Core.List.{List, [], _∷_}
-use lib.Dec.{leb, ltb, eqb}
+use mathlib.Core.List.{List}
+use lib.Dec.{leb, eqb}
 use lib.ListN.{length, getD, drop, length-drop, drop-of-length-le}
 use lib.Seq.{drop-cons, drop-drop, getD-drop}
 use borrow.Author.Tests.{lt-ltb, le-ltb, le-leb, lt-leb, eqb-true, eq-eqb, ne-eqb}
 use Rattle.model.specs.declared.FieldForm.{FieldForm}
 use Rattle.model.specs.declared.FieldForm.the-variants.{Decimal, Bits}
 use Rattle.model.specs.Check.{within}
-use Rattle.model.specs.Laws.Tests.{within-high}
 use Rattle.model.specs.Laws.Digits.{run-length, numeral-small}
-use Rattle.model.specs.Text.{front, digit, run, numeral, baseOf, isField, Field, none, field, fieldIn}
+use Rattle.model.specs.Text.{front, digit, run, numeral, baseOf, isField, none, field, fieldIn}
 use Rattle.fields.specs.Counted.{Counted}
 use Rattle.fields.specs.Wide.{hexadecimalIn}
 
@@ -41,15 +40,6 @@ module _ (b : ℕ) where
   pub digit-above : 102 < b → 16 ≡ digit b
   unfolding digit within
   digit-above l = simp (le-leb 48 b (omega arith), lt-leb b 57 (omega arith), le-leb 97 b (omega arith), lt-leb b 102 l)
-
-at-most : (t : Bool) {a b m : ℕ} → (t ≡ true → a ≤ m) → b ≤ m → cond t a b ≤ m
-at-most true p q = p refl
-at-most false p q = q
-
-pub digit-most : (b : ℕ) → digit b ≤ 16
-unfolding digit
-digit-most b =
-    at-most (within 48 b 57) (λ e. omega (arith, within-high 48 b 57 e)) (at-most (within 97 b 102) (λ e. omega (arith, within-high 97 b 102 e)) (omega arith))
 
 -- ---- a run
 
