@@ -1,13 +1,11 @@
 -- How many bytes fields and lines have at the most. Definitions only.
 use Prim.Native.Nat.{ℕ, _+_, _*_}
 use Rattle.model.specs.Plan.{maxJoints, outputAt}
+use Rattle.model.specs.Program.{numberBytes}
 
--- digits of a number of 64 bits, of a float's bits, and of an index of joints or clip nodes
+-- digits of a number of 64 bits, and of an index of joints or clip nodes
 abbrev pub maxDigits : ℕ
 maxDigits = 20
-
-abbrev pub floatDigits : ℕ
-floatDigits = 8
 
 abbrev pub indexDigits : ℕ
 indexDigits = 2
@@ -20,9 +18,6 @@ matrixFloats = outputAt 1
 abbrev pub decimalSize : ℕ
 decimalSize = 1 + maxDigits
 
-abbrev pub floatSize : ℕ
-floatSize = 1 + floatDigits
-
 abbrev pub indexSize : ℕ
 indexSize = 1 + indexDigits
 
@@ -31,7 +26,7 @@ abbrev pub refusalSize : ℕ
 refusalSize = 7 + 2 * decimalSize + 1
 
 abbrev pub jointSize : ℕ
-jointSize = 5 + indexSize + matrixFloats * floatSize + 1
+jointSize = 5 + indexSize + matrixFloats * numberBytes + 1
 
 -- all that the program prints
 abbrev pub maxPrinted : ℕ

@@ -3,6 +3,7 @@ use float::f32_to_bits;
 use model::Refusal;
 use model::limits::MATRIX_FLOATS;
 use model::limits::MAX_JOINTS;
+use model::limits::NUMBER_BYTES;
 ghost use mathlib.Core.Path.{_≡_};
 ghost use mathlib.Core.List.{[], _∷_};
 ghost use Prim.Native.Nat.{_+_, _*_, _<_, _≤_};
@@ -11,12 +12,12 @@ ghost use lib.Seq.{sets};
 ghost use lib.Ieee.{binary32, toBits};
 ghost use Rattle.model.specs.Text.{comma};
 ghost use Rattle.model.specs.Plan.{maxJoints, outputAt};
-ghost use Rattle.model.specs.Program.{glyph, digits, places, decimalFields, refusedLine, jointLine};
+ghost use Rattle.model.specs.Program.{glyph, digits, places, decimalFields, refusedLine, jointLine, numberBytes};
 ghost use Rattle.printing.specs.Written.{Written, floatFields, matrixIn, jointLines};
-ghost use Rattle.printing.specs.Sizes.{maxDigits, decimalSize, floatSize, refusalSize, jointSize};
+ghost use Rattle.printing.specs.Sizes.{maxDigits, decimalSize, refusalSize, jointSize};
 
 // Digits of a float's bits, of any number, and of an index of joints or clip nodes.
-const FLOAT_DIGITS: usize = 8;
+const FLOAT_DIGITS: usize = NUMBER_BYTES - 1;
 
 const MAX_DIGITS: usize = 20;
 
@@ -25,11 +26,9 @@ const INDEX_DIGITS: usize = 2;
 // How many bytes fields and lines have at the most; specs/Sizes.antt has the same for contracts.
 pub const DECIMAL_SIZE: usize = 1 + MAX_DIGITS;
 
-pub const FLOAT_SIZE: usize = 1 + FLOAT_DIGITS;
-
 pub const REFUSAL_SIZE: usize = 7 + 2 * DECIMAL_SIZE + 1;
 
-const JOINT_SIZE: usize = 5 + (1 + INDEX_DIGITS) + MATRIX_FLOATS * FLOAT_SIZE + 1;
+const JOINT_SIZE: usize = 5 + (1 + INDEX_DIGITS) + MATRIX_FLOATS * NUMBER_BYTES + 1;
 
 // All that the program prints.
 pub const MAX_PRINTED: usize = MAX_JOINTS * JOINT_SIZE;
@@ -105,15 +104,15 @@ fn bits(x: f32) -> usize
 
 // A comma, and the bits of x.
 pub fn put_bits(out: &mut [u8], at: usize, x: f32) -> usize
-    requires { ⌜ at + floatSize ≤ length (now out) ⌝ }
-    ensures { λ r. ⌜ Written (now (out .entry)) at (floatFields (x ∷ [])) (now (out .exit)) r × (r ≡ at + floatSize) ⌝ }
+    requires { ⌜ at + numberBytes ≤ length (now out) ⌝ }
+    ensures { λ r. ⌜ Written (now (out .entry)) at (floatFields (x ∷ [])) (now (out .exit)) r × (r ≡ at + numberBytes) ⌝ }
 {
     put_field(out, at, 16, FLOAT_DIGITS, bits(x))
 }
 
 pub fn put_floats(out: &mut [u8], at: usize, floats: &[f32]) -> usize
-    requires { ⌜ at + floatSize * length (now floats) ≤ length (now out) ⌝ }
-    ensures { λ r. ⌜ Written (now (out .entry)) at (floatFields (now (floats .entry))) (now (out .exit)) r × (r ≡ at + floatSize * length (now (floats .entry))) ⌝ }
+    requires { ⌜ at + numberBytes * length (now floats) ≤ length (now out) ⌝ }
+    ensures { λ r. ⌜ Written (now (out .entry)) at (floatFields (now (floats .entry))) (now (out .exit)) r × (r ≡ at + numberBytes * length (now (floats .entry))) ⌝ }
 {
     let mut behind = at;
     let mut k = 0;

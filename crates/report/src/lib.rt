@@ -7,8 +7,8 @@ use model::Transition;
 use model::limits::MAX_CLIP_NODES;
 use model::limits::MAX_INSTANCES;
 use model::limits::MAX_PARAMETERS;
+use model::limits::NUMBER_BYTES;
 use printing::DECIMAL_SIZE;
-use printing::FLOAT_SIZE;
 use printing::put_bits;
 use printing::put_bytes;
 use printing::put_decimal;
@@ -34,7 +34,7 @@ const WIDE_DIGITS: usize = 16;
 // How many bytes fields and lines have at the most; specs/Sizes.antt has the same for contracts.
 const WIDE_SIZE: usize = 1 + WIDE_DIGITS;
 
-const TRANSITION_SIZE: usize = 8 + WIDE_SIZE + DECIMAL_SIZE + FLOAT_SIZE;
+const TRANSITION_SIZE: usize = 8 + WIDE_SIZE + DECIMAL_SIZE + NUMBER_BYTES;
 
 pub const PLAYER_SIZE: usize = 6 + 2 * WIDE_SIZE + DECIMAL_SIZE + TRANSITION_SIZE + 1;
 

@@ -1,18 +1,17 @@
--- `printing::put_floats` meets its contract: after k turns the first k floats are written, of floatSize bytes each. Assumes nothing.
+-- `printing::put_floats` meets its contract: after k turns the first k floats are written, of numberBytes bytes each. Assumes nothing.
 use Prim.Native.Nat.{_+_, _*_, _-_, _≤_}
 use mathlib.Core.Path.{_≡_}
 use native.Mathlib.Omega.{arith}
 use lib.ListN.{length, take}
 use lib.Seq.{take-all}
-use Rattle.model.specs.Program.{bitsFields}
+use Rattle.model.specs.Program.{bitsFields, numberBytes}
 use Rattle.printing.specs.Written.{Written, floatFields}
-use Rattle.printing.specs.Sizes.{floatSize}
 use Rattle.printing.proofs.Laws.{nothing-written, length-written, next-float}
 use Rattle.printing.proofs.put_floats.Statement.{statement}
 use Rattle.printing.proofs.put_floats.Tie as tie
 
 abbrev Inv-loop : tie.InvT-loop
-Inv-loop out₀ at floats behind₀ k₀ out behind k = (k ≤ length floats) × (behind ≡ at + floatSize * k) × Written out₀ at (floatFields (take k floats)) out behind
+Inv-loop out₀ at floats behind₀ k₀ out behind k = (k ≤ length floats) × (behind ≡ at + numberBytes * k) × Written out₀ at (floatFields (take k floats)) out behind
 
 abbrev μ-loop : tie.MeasureT-loop
 μ-loop out₀ at floats behind₀ k₀ out behind k = length floats - k
