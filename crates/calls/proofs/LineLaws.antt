@@ -15,7 +15,7 @@ use Rattle.model.specs.declared.FrameKind.{FrameKind}
 use Rattle.model.specs.declared.FrameKind.the-variants.{Ordinary, Page}
 use Rattle.model.specs.Run as Run
 use Rattle.model.specs.Text as Text
-use Rattle.model.specs.Text.{front, comma, lineFeed, run, numeral, maxWord, isField, none, field, fieldIn, begins}
+use Rattle.model.specs.Text.{front, comma, lineFeed, digitCount, numeral, maxWord, isField, none, field, fieldIn, begins}
 use Rattle.model.specs.Laws.Text.{field-law}
 use Rattle.fields.specs.declared.Field.{Field}
 use Rattle.fields.specs.declared.Field.the-variants.{Value, Nothing}
@@ -59,14 +59,14 @@ comma-read read nothing text at place e = ap read e ∙ go (eqb (front (drop at 
     go false = nothing
 
 no-wide-bits : wideBitsIn [] ≡ none
-unfolding wideBitsIn run
+unfolding wideBitsIn digitCount
 no-wide-bits = refl
 
 pub wide-read : (text : List ℕ) (at place : ℕ) → drop place text ≡ behind (drop at text) → wideBitsIn (drop place text) ≡ wideField (drop at text)
 wide-read = comma-read wideBitsIn no-wide-bits
 
 nothing-read : (form : FieldForm) → fieldIn form [] ≡ none
-unfolding fieldIn isField run
+unfolding fieldIn isField digitCount
 nothing-read (Decimal limit) = refl
 nothing-read Bits = refl
 
@@ -187,7 +187,7 @@ Keeps read = (s : List ℕ) (v : ℕ) (rest : List ℕ) → read s ≡ field v r
 
 wide-keeps : Keeps wideBitsIn
 unfolding wideBitsIn
-wide-keeps s v rest e = at (eqb (run 16 s) 16) e
+wide-keeps s v rest e = at (eqb (digitCount 16 s) 16) e
   where
     at : (t : Bool) → cond t (field (numeral 16 16 s) (drop 16 s)) none ≡ field v rest → length rest ≤ length s
     at true e = let p : drop 16 s ≡ rest = cc in omega (arith, length-drop 16 s, ap length p)

@@ -22,11 +22,11 @@ use denote.Steps.{nothing}
 use denote.Struct.Members.{Member}
 use denote.Struct.Laws as LL
 use Rattle.model.specs.Plan.{maxParameters, maxClipNodes}
-use Rattle.flat.specs.FlatParts.{flatOf}
-use Rattle.flat.specs.declared.FlatPlayer.{FlatPlayer}
-use Rattle.flat.specs.declared.FlatParts.{FlatParts}
-use Rattle.flat.proofs.FlatPlayer as T
-use Rattle.flat.proofs.FlatPlayer.Laws as T′
+use Rattle.host_player.specs.HostParts.{hostOf}
+use Rattle.host_player.specs.declared.HostPlayer.{HostPlayer}
+use Rattle.host_player.specs.declared.HostParts.{HostParts}
+use Rattle.host_player.proofs.HostPlayer as T
+use Rattle.host_player.proofs.HostPlayer.Laws as T′
 use Rattle.capi.proofs.Lent.{membersOf, Loan, stays, shared, mutable, Names, refs, kept, Back, struct-lends, struct-back}
 
 -- the fields, for the lifetimes α and β
@@ -50,15 +50,15 @@ abbrev ms : List Member
 ms = membersOf (T.the-type .parts)
 
 -- the player's numbers
-abbrev pub partsOf : FlatPlayer → FlatParts
+abbrev pub partsOf : HostPlayer → HostParts
 partsOf h = record { clock = h .clock; speed = h .speed; state = h .state; running = h .running; start = h .start; target = h .target; duration = h .duration }
 
 -- the player with the instances that a callee left
-abbrev pub withInstances : FlatPlayer → List Float → FlatPlayer
-withInstances h is = flatOf (partsOf h) (h .parameters) is
+abbrev pub withInstances : HostPlayer → List Float → HostPlayer
+withInstances h is = hostOf (partsOf h) (h .parameters) is
 
 -- the player at (b, o)
-module _ {M : Type 1} (𝓤 : URA M) (H : Heap 𝓤) (A : Atoms 𝓤) (W : Given 𝓤 H A) (b o : ℕ) (h : FlatPlayer) (α β : ℕ) where
+module _ {M : Type 1} (𝓤 : URA M) (H : Heap 𝓤) (A : Atoms 𝓤) (W : Given 𝓤 H A) (b o : ℕ) (h : HostPlayer) (α β : ℕ) where
   abbrev pub parameters : GName → RefT (List Float)
   parameters γ = record { ptr = (b, o + parametersAt); name = γ; now = h .parameters }
 
@@ -76,7 +76,7 @@ module _ {M : Type 1} (𝓤 : URA M) (H : Heap 𝓤) (A : Atoms 𝓤) (W : Given
 
   -- what is kept while the arrays are lent: the lender's parts and the other fields in memory, and the way back to the struct
   abbrev pub Kept : Loans → Item 𝓤
-  Kept γs = ‵ (kept (loans α β) ms 0 (T.the-type .to h) γs b o) ⊛ raw (Back 𝓤 H A W (T.the-type .name) ms FlatPlayer (T.the-type .to) (T.the-type .to-one) (loans α β) b o)
+  Kept γs = ‵ (kept (loans α β) ms 0 (T.the-type .to h) γs b o) ⊛ raw (Back 𝓤 H A W (T.the-type .name) ms HostPlayer (T.the-type .to) (T.the-type .to-one) (loans α β) b o)
 
   abbrev pub Lent : Loans → Item 𝓤
   Lent γs = ‵ (OwnParameters (parameters (γs .0))) ⊛ ‵ (OwnInstances (instances (γs .1 .0))) ⊛ Kept γs
@@ -86,7 +86,7 @@ module _ {M : Type 1} (𝓤 : URA M) (H : Heap 𝓤) (A : Atoms 𝓤) (W : Given
   lends =
       qed W (‵ (partAt T.the-row fullShare h b o) ∷ []) ∵ updating ! $
       use1 W (later (some (λ (γs : Loans). ‵ (refs (loans α β) ms 0 (T.the-type .to h) γs b o) ⊛ Kept γs)))
-      (struct-lends 𝓤 H A W (T.the-type .name) ms FlatPlayer (T.the-type .to) (T.the-type .to-one) (loans α β) b o (LL.lawfuls 𝓤 H A W (T.the-type .parts) T′.the-laws) h) $
+      (struct-lends 𝓤 H A W (T.the-type .name) ms HostPlayer (T.the-type .to) (T.the-type .to-one) (loans α β) b o (LL.lawfuls 𝓤 H A W (T.the-type .parts) T′.the-laws) h) $
       await ! tt $ pick ! (λ γs. split ! $ fsplit ! $ move ! (1 ∷ []) $ fsplit ! $ move ! (2 ∷ 0 ∷ 3 ∷ []) $
       -- [the parameters; the instances; what is kept; true]
       rewrite ! 0 (λ (zs : List Float). ‵ (OwnParameters (record { ptr = (b, o + parametersAt); name = γs .0; now = zs }))) (map-id (h .parameters)) refl $
@@ -104,5 +104,5 @@ module _ {M : Type 1} (𝓤 : URA M) (H : Heap 𝓤) (A : Atoms 𝓤) (W : Given
       rewrite ! 3 (λ (zs : List Float). ‵ (fres (γs .1 .0) (Instances .coded .code zs))) (sym (map-id is)) refl $
       nothing ! $ move ! (4 ∷ 0 ∷ []) $ fjoin ! $ move ! (1 ∷ 0 ∷ []) $ fjoin ! $ move ! (1 ∷ 0 ∷ []) $ fjoin ! $
       use2 W (later (‵ (partAt T.the-row fullShare (withInstances h is) b o)))
-      (struct-back 𝓤 H A W (T.the-type .name) ms FlatPlayer (T.the-type .to) (T.the-type .to-one) (loans α β) b o γs h (withInstances h is)
+      (struct-back 𝓤 H A W (T.the-type .name) ms HostPlayer (T.the-type .to) (T.the-type .to-one) (loans α β) b o γs h (withInstances h is)
       (refl, (refl, (refl, (refl, (refl, (refl, (refl, (refl, refl))))))))) $ await ! tt $ at-once ! $ done !

@@ -37,17 +37,17 @@ use denote.Triple.Spec.{Meets, tripleOf}
 use denote.Triple.Walked.{says, Stays, stay-dropped, gave-ref, gave-slice, walkOf, AllGo, goes-dropped, goes-gave-ref, goes-gave-slice, ends-at, walked, walk-meets}
 use denote.Triple.Clauses.{Clauses, lasts, closing}
 use denote.Exit.{yes}
-use Rattle.flat.specs.FlatPromises.{FlatFramed}
+use Rattle.host_player.specs.HostPromises.{HostFramed}
 use Rattle.model.specs.declared.FrameKind.{FrameKind}
 use Rattle.model.specs.declared.FrameKind.the-variants.{Ordinary, Page}
 use Rattle.model.proofs.FrameKind as E
 use Rattle.model.proofs.FrameKind.Laws as E′
-use Rattle.flat.specs.declared.FlatPlayer.{FlatPlayer}
-use Rattle.flat.specs.declared.FlatAnswer.{FlatAnswer}
-use Rattle.flat.proofs.FlatPlayer as T
-use Rattle.flat.proofs.FlatPlayer.Laws as T′
-use Rattle.flat.proofs.FlatAnswer as N
-use Rattle.flat.proofs.FlatAnswer.Laws as N′
+use Rattle.host_player.specs.declared.HostPlayer.{HostPlayer}
+use Rattle.host_player.specs.declared.HostAnswer.{HostAnswer}
+use Rattle.host_player.proofs.HostPlayer as T
+use Rattle.host_player.proofs.HostPlayer.Laws as T′
+use Rattle.host_player.proofs.HostAnswer as N
+use Rattle.host_player.proofs.HostAnswer.Laws as N′
 use Rattle.controller.proofs.Changed.{held}
 use Rattle.capi.proofs.frame_in_place as callee
 use Rattle.capi.proofs.frame_in_place.Symbol.{name as #callee}
@@ -92,7 +92,7 @@ module _ {M : Type 1} (𝓤 : URA M) (H : Heap 𝓤) (A : Atoms 𝓤) where
       record {
         ghost = Unit {0};
         requires = λ g. emp 𝓤;
-        ensures = λ g r e. fact 𝓤 (FlatFramed kind (a .0 .now) (a .1 .0 .now) (a .1 .1 .0 .now) (a .1 .1 .1 .0) (a .1 .1 .1 .1 .0 .now) (e .1 .1 .1 .1 .0 .now) (e .1 .1 .0 .now) r);
+        ensures = λ g r e. fact 𝓤 (HostFramed kind (a .0 .now) (a .1 .0 .now) (a .1 .1 .0 .now) (a .1 .1 .1 .0) (a .1 .1 .1 .1 .0 .now) (e .1 .1 .1 .1 .0 .now) (e .1 .1 .0 .now) r);
       }
 
   made : {K : Type 0} {W : Given 𝓤 H A} {Γ : List (Item 𝓤)} {env : Env 𝓤 H} → K → (kind : FrameKind) → Rv K W Γ env (aggregate (int w8 (tagOf E.the-type kind) ∷ [])) (EL.val E.the-type E′.the-laws kind)
@@ -105,11 +105,11 @@ module _ {M : Type 1} (𝓤 : URA M) (H : Heap 𝓤) (A : Atoms 𝓤) where
 
 -- a call: its lifetimes and shares, and its parameters
 module _ {M : Type 1} (𝓤 : URA M) (H : Heap 𝓤) (A : Atoms 𝓤) (W : Given 𝓤 H A) (at-mem : Memory → SProp 𝓤) (run : Routine → Fun 𝓤) (kind : FrameKind) (κ₀ κ₁ κ₂ κ₃ : Lft) (q₀ q₁ q₂ q₃ : Share)
-    (s : RefT (List ℕ)) (n : RefT (List Float)) (b o : ℕ) (γ : GName) (h : FlatPlayer) (d : Float) (b₃ o₃ : ℕ) (γ₃ : GName) (ys : List Float) where
+    (s : RefT (List ℕ)) (n : RefT (List Float)) (b o : ℕ) (γ : GName) (h : HostPlayer) (d : Float) (b₃ o₃ : ℕ) (γ₃ : GName) (ys : List Float) where
   abbrev κs : Lfts 4
   κs = (κ₀, (κ₁, (κ₂, (κ₃, tt))))
 
-  abbrev x : RefT (List ℕ) × (RefT (List Float) × (RefT FlatPlayer × (Float × (RefT (List Float) × Unit {0}))))
+  abbrev x : RefT (List ℕ) × (RefT (List Float) × (RefT HostPlayer × (Float × (RefT (List Float) × Unit {0}))))
   x = (s, (n, (record { ptr = (b, o); name = γ; now = h }, (d, (record { ptr = (b₃, o₃); name = γ₃; now = ys }, tt)))))
 
   -- the machine values
@@ -134,16 +134,16 @@ module _ {M : Type 1} (𝓤 : URA M) (H : Heap 𝓤) (A : Atoms 𝓤) (W : Given
   abbrev Post : Val → SProp 𝓤
   Post = walkOf 𝓤 H A f.ended stayed (framing 𝓤 H A kind) .post Ghosts
 
-  abbrev Said : FlatAnswer → FlatPlayer → List Float → Type 0
-  Said r after zs = FlatFramed kind (s .now) (n .now) h d ys zs after r
+  abbrev Said : HostAnswer → HostPlayer → List Float → Type 0
+  Said r after zs = HostFramed kind (s .now) (n .now) h d ys zs after r
 
   abbrev Tokens : Item 𝓤
   Tokens = ‵ (flft κ₀ q₀) ⊛ ‵ (flft κ₁ q₁) ⊛ ‵ (flft κ₂ q₂) ⊛ ‵ (flft κ₃ q₃) ⊛ ‵ ftrue
 
-  abbrev Left : FlatAnswer → FlatPlayer → List Float → Val → List (Item 𝓤)
+  abbrev Left : HostAnswer → HostPlayer → List Float → Val → List (Item 𝓤)
   Left r after zs v = Tokens ∷ ‵ (fres γ (T.the-row .coded .code after)) ∷ ‵ (finally f32 γ₃ zs) ∷ ‵ (N.the-row .own r (v ∷ [])) ∷ []
 
-  exits : (r : FlatAnswer) (after : FlatPlayer) (zs : List Float) (v : Val) → Said r after zs → length zs ≡ length ys → ent 𝓤 (⋆ 𝓤 H A (Left r after zs v)) (Post v)
+  exits : (r : HostAnswer) (after : HostPlayer) (zs : List Float) (v : Val) → Said r after zs → length zs ≡ length ys → ent 𝓤 (⋆ 𝓤 H A (Left r after zs v)) (Post v)
   exits r after zs v said l =
       qed W (Left r after zs v) ∵
       suffices ! _ (ends-at 𝓤 H A f.ended stayed (framing 𝓤 H A kind) W Ghosts v r (tt, (tt, (after, (tt, (zs, tt))))) (tt, (tt, (tt, (tt, (l, tt)))))) $ says ! said $ frame ! $
@@ -164,9 +164,9 @@ module _ {M : Type 1} (𝓤 : URA M) (H : Heap 𝓤) (A : Atoms 𝓤) (W : Given
   asked = qed W (Tokens ∷ ‵ Passed ∷ []) ∵ join ! $ frame ! $ done !
 
   abbrev Lasts : Type 0
-  Lasts = Unit {0} × (Unit {0} × (Unit {0} × (FlatPlayer × (Unit {0} × (List Float × Unit {0})))))
+  Lasts = Unit {0} × (Unit {0} × (Unit {0} × (HostPlayer × (Unit {0} × (List Float × Unit {0})))))
 
-  abbrev Returned : Val → FlatAnswer → Item 𝓤
+  abbrev Returned : Val → HostAnswer → Item 𝓤
   Returned v r =
       (Tokens ⊛ ‵ (N.the-row .own r (v ∷ []))) ⊛ some (λ (ws : Lasts). ‵ (lasts callee.ended κs (kind, x) ws) ⊛ raw (fact 𝓤 (Said r (ws .1 .1 .1 .0) (ws .1 .1 .1 .1 .1 .0))))
 

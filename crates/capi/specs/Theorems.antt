@@ -11,13 +11,13 @@ use Rattle.model.specs.Text.{Reading, bad, got, readFigure, textVerdict}
 use Rattle.model.specs.Program.{numberBytes}
 use Rattle.model.specs.Laws.Reading.{figure-fits}
 use Rattle.round_trip.specs.Theorems.{words-most}
-use Rattle.flat.specs.declared.FlatTextAnswer.{FlatTextAnswer}
-use Rattle.flat.specs.Flat.{flatTextAnswer}
-use Rattle.flat.specs.FlatPromises.{FlatTextRead}
+use Rattle.host_player.specs.declared.HostTextAnswer.{HostTextAnswer}
+use Rattle.host_player.specs.HostPlayer.{hostTextAnswer}
+use Rattle.host_player.specs.HostPromises.{HostTextRead}
 
 module _ (text : List ℕ) (w n : ℕ) (words-room : maxPlan ≤ w) (numbers-room : length text / numberBytes ≤ n) where
-  never-short : (x : Reading) → readFigure text ≡ x → flatTextAnswer (textVerdict x w n) .number ≡ 12 → ⊥
-  unfolding textVerdict flatTextAnswer
+  never-short : (x : Reading) → readFigure text ≡ x → hostTextAnswer (textVerdict x w n) .number ≡ 12 → ⊥
+  unfolding textVerdict hostTextAnswer
   never-short (bad m) t e = omega (arith, e)
   never-short (got ws bs rest m) t e =
       let fits : 2 * length ws + numberBytes * length bs ≤ length text = figure-fits text ws bs rest m t in
@@ -25,7 +25,7 @@ module _ (text : List ℕ) (w n : ℕ) (words-room : maxPlan ≤ w) (numbers-roo
       let z : _≡_ {A = ℕ} 0 12 = rw (le-leb (length ws) w (omega arith), le-leb (length bs) n (omega arith)) at e in
       omega (arith, z)
 
-pub room-enough : (text planOld planNew : List ℕ) (numbersOld numbersNew : List Float) (r : FlatTextAnswer) → FlatTextRead text planOld planNew numbersOld numbersNew r
+pub room-enough : (text planOld planNew : List ℕ) (numbersOld numbersNew : List Float) (r : HostTextAnswer) → HostTextRead text planOld planNew numbersOld numbersNew r
     → maxPlan ≤ length planOld → length text / numberBytes ≤ length numbersOld → r .number ≡ 12 → ⊥
 room-enough text planOld planNew numbersOld numbersNew r done w n e =
-    never-short text (length planOld) (length numbersOld) w n (readFigure text) refl (sym (ap (λ (a : FlatTextAnswer). a .number) (done .answer)) ∙ e)
+    never-short text (length planOld) (length numbersOld) w n (readFigure text) refl (sym (ap (λ (a : HostTextAnswer). a .number) (done .answer)) ∙ e)

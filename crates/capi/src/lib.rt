@@ -1,14 +1,14 @@
 // The static library: the calls for hosts in C and Rust. A player stays in the host's memory, as a flat struct. No call asks anything of its content.
-use flat::FlatAnswer;
-use flat::FlatParts;
-use flat::FlatPlayer;
-use flat::FlatTextAnswer;
-use flat::flat_frame;
-use flat::flat_text_answer;
-use flat::parameter_set;
-use flat::started;
-use flat::updated;
-use flat::with_speed;
+use host_player::HostAnswer;
+use host_player::HostParts;
+use host_player::HostPlayer;
+use host_player::HostTextAnswer;
+use host_player::host_frame;
+use host_player::host_text_answer;
+use host_player::parameter_set;
+use host_player::started;
+use host_player::updated;
+use host_player::with_speed;
 use layout::JOINT_COUNT_AT;
 use layout::MAX_PLAN;
 use layout::word;
@@ -20,7 +20,7 @@ ghost use Prim.Native.Nat.{_/_};
 ghost use Rattle.model.specs.declared.FrameKind.the-variants as Kind;
 ghost use Rattle.model.specs.Plan.{maxPlan, jointCount, outputAt};
 ghost use Rattle.model.specs.Program.{numberBytes};
-ghost use Rattle.flat.specs.FlatPromises.{FlatStarted, FlatUpdated, FlatSpeedSet, FlatParameterSet, FlatFramed, FlatTextRead};
+ghost use Rattle.host_player.specs.HostPromises.{HostStarted, HostUpdated, HostSpeedSet, HostParameterSet, HostFramed, HostTextRead};
 
 // ---- start, update, speed, set
 
@@ -28,9 +28,9 @@ ghost use Rattle.flat.specs.FlatPromises.{FlatStarted, FlatUpdated, FlatSpeedSe
 pub extern "C" fn gentianlathe_start(
     plan: &[u16],
     numbers: &[f32],
-    player: &mut FlatPlayer,
-) -> FlatAnswer
-    ensures { λ r. ⌜ FlatStarted (now (plan .entry)) (now (numbers .entry)) (now (player .exit)) r ⌝ }
+    player: &mut HostPlayer,
+) -> HostAnswer
+    ensures { λ r. ⌜ HostStarted (now (plan .entry)) (now (numbers .entry)) (now (player .exit)) r ⌝ }
 {
     let outcome = started(plan, numbers);
     *player = outcome.player;
@@ -38,26 +38,26 @@ pub extern "C" fn gentianlathe_start(
 }
 
 #[no_mangle]
-pub extern "C" fn gentianlathe_update(player: &mut FlatPlayer, delta: f64)
-    ensures { λ _. ⌜ FlatUpdated (now (player .entry)) delta (now (player .exit)) ⌝ }
+pub extern "C" fn gentianlathe_update(player: &mut HostPlayer, delta: f64)
+    ensures { λ _. ⌜ HostUpdated (now (player .entry)) delta (now (player .exit)) ⌝ }
 {
     *player = updated(*player, delta);
 }
 
 #[no_mangle]
-pub extern "C" fn gentianlathe_speed(player: &mut FlatPlayer, value: f64)
-    ensures { λ _. ⌜ FlatSpeedSet (now (player .entry)) value (now (player .exit)) ⌝ }
+pub extern "C" fn gentianlathe_speed(player: &mut HostPlayer, value: f64)
+    ensures { λ _. ⌜ HostSpeedSet (now (player .entry)) value (now (player .exit)) ⌝ }
 {
     *player = with_speed(*player, value);
 }
 
 #[no_mangle]
 pub extern "C" fn gentianlathe_set(
-    player: &mut FlatPlayer,
+    player: &mut HostPlayer,
     parameter: usize,
     value: f32,
-) -> FlatAnswer
-    ensures { λ r. ⌜ FlatParameterSet (now (player .entry)) parameter value (now (player .exit)) r ⌝ }
+) -> HostAnswer
+    ensures { λ r. ⌜ HostParameterSet (now (player .entry)) parameter value (now (player .exit)) r ⌝ }
 {
     let outcome = parameter_set(*player, parameter, value);
     *player = outcome.player;
@@ -70,13 +70,13 @@ fn frame_in_place(
     kind: FrameKind,
     plan: &[u16],
     numbers: &[f32],
-    player: &mut FlatPlayer,
+    player: &mut HostPlayer,
     ext: f64,
     output: &mut [f32],
-) -> FlatAnswer
-    ensures { λ r. ⌜ FlatFramed kind (now (plan .entry)) (now (numbers .entry)) (now (player .entry)) ext (now (output .entry)) (now (output .exit)) (now (player .exit)) r ⌝ }
+) -> HostAnswer
+    ensures { λ r. ⌜ HostFramed kind (now (plan .entry)) (now (numbers .entry)) (now (player .entry)) ext (now (output .entry)) (now (output .exit)) (now (player .exit)) r ⌝ }
 {
-    let parts = FlatParts {
+    let parts = HostParts {
         clock: (*player).clock,
         speed: (*player).speed,
         state: (*player).state,
@@ -85,7 +85,7 @@ fn frame_in_place(
         target: (*player).target,
         duration: (*player).duration,
     };
-    let frame = flat_frame(
+    let frame = host_frame(
         kind,
         plan,
         numbers,
@@ -109,11 +109,11 @@ fn frame_in_place(
 pub extern "C" fn gentianlathe_frame(
     plan: &[u16],
     numbers: &[f32],
-    player: &mut FlatPlayer,
+    player: &mut HostPlayer,
     ext: f64,
     output: &mut [f32],
-) -> FlatAnswer
-    ensures { λ r. ⌜ FlatFramed Kind.Ordinary (now (plan .entry)) (now (numbers .entry)) (now (player .entry)) ext (now (output .entry)) (now (output .exit)) (now (player .exit)) r ⌝ }
+) -> HostAnswer
+    ensures { λ r. ⌜ HostFramed Kind.Ordinary (now (plan .entry)) (now (numbers .entry)) (now (player .entry)) ext (now (output .entry)) (now (output .exit)) (now (player .exit)) r ⌝ }
 {
     frame_in_place(FrameKind::Ordinary, plan, numbers, player, ext, output)
 }
@@ -122,11 +122,11 @@ pub extern "C" fn gentianlathe_frame(
 pub extern "C" fn gentianlathe_page_frame(
     plan: &[u16],
     numbers: &[f32],
-    player: &mut FlatPlayer,
+    player: &mut HostPlayer,
     ext: f64,
     output: &mut [f32],
-) -> FlatAnswer
-    ensures { λ r. ⌜ FlatFramed Kind.Page (now (plan .entry)) (now (numbers .entry)) (now (player .entry)) ext (now (output .entry)) (now (output .exit)) (now (player .exit)) r ⌝ }
+) -> HostAnswer
+    ensures { λ r. ⌜ HostFramed Kind.Page (now (plan .entry)) (now (numbers .entry)) (now (player .entry)) ext (now (output .entry)) (now (output .exit)) (now (player .exit)) r ⌝ }
 {
     frame_in_place(FrameKind::Page, plan, numbers, player, ext, output)
 }
@@ -138,10 +138,10 @@ pub extern "C" fn gentianlathe_read_text(
     text: &[u8],
     plan: &mut [u16],
     numbers: &mut [f32],
-) -> FlatTextAnswer
-    ensures { λ r. ⌜ FlatTextRead (now (text .entry)) (now (plan .entry)) (now (plan .exit)) (now (numbers .entry)) (now (numbers .exit)) r ⌝ }
+) -> HostTextAnswer
+    ensures { λ r. ⌜ HostTextRead (now (text .entry)) (now (plan .entry)) (now (plan .exit)) (now (numbers .entry)) (now (numbers .exit)) r ⌝ }
 {
-    flat_text_answer(text::read(text, plan, numbers))
+    host_text_answer(text::read(text, plan, numbers))
 }
 
 // ---- sizes

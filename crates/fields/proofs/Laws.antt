@@ -14,7 +14,7 @@ use Rattle.model.specs.declared.FieldForm.{FieldForm}
 use Rattle.model.specs.declared.FieldForm.the-variants.{Decimal, Bits}
 use Rattle.model.specs.Check.{within}
 use Rattle.model.specs.Laws.Digits.{run-length, numeral-small}
-use Rattle.model.specs.Text.{front, digit, run, numeral, baseOf, isField, none, field, fieldIn}
+use Rattle.model.specs.Text.{front, digit, digitCount, numeral, baseOf, isField, none, field, fieldIn}
 use Rattle.fields.specs.Counted.{Counted}
 use Rattle.fields.specs.Wide.{hexadecimalIn}
 
@@ -43,20 +43,20 @@ module _ (b : ℕ) where
 
 -- ---- a run
 
-pub run-goes-on : (base : ℕ) (s : List ℕ) (i : ℕ) → i < length s → digit (getD s i 0) < base → run base (drop i s) ≡ suc (run base (drop (suc i) s))
-unfolding run
+pub run-goes-on : (base : ℕ) (s : List ℕ) (i : ℕ) → i < length s → digit (getD s i 0) < base → digitCount base (drop i s) ≡ suc (digitCount base (drop (suc i) s))
+unfolding digitCount
 run-goes-on base s i h d = rw (drop-cons s i 0 h, lt-ltb _ base d)
 
-pub run-stops : (base : ℕ) (s : List ℕ) (i : ℕ) → i < length s → base ≤ digit (getD s i 0) → run base (drop i s) ≡ 0
-unfolding run
+pub run-stops : (base : ℕ) (s : List ℕ) (i : ℕ) → i < length s → base ≤ digit (getD s i 0) → digitCount base (drop i s) ≡ 0
+unfolding digitCount
 run-stops base s i h d = rw (drop-cons s i 0 h, le-ltb _ base d)
 
-pub run-none : (base : ℕ) (s : List ℕ) (i : ℕ) → length s ≤ i → run base (drop i s) ≡ 0
-unfolding run
+pub run-none : (base : ℕ) (s : List ℕ) (i : ℕ) → length s ≤ i → digitCount base (drop i s) ≡ 0
+unfolding digitCount
 run-none base s i h = rw (drop-of-length-le s h)
 
 -- a run with a digit in it ends in the text
-pub run-inside : (base : ℕ) (s : List ℕ) (at end : ℕ) → end ≡ at + run base (drop at s) → at < end → end ≤ length s
+pub run-inside : (base : ℕ) (s : List ℕ) (at end : ℕ) → end ≡ at + digitCount base (drop at s) → at < end → end ≤ length s
 run-inside base s at end e h = omega (arith, run-length base (drop at s), length-drop at s)
 
 -- ---- its number
@@ -117,8 +117,8 @@ no-zero-leads k b h = at (eqb b 48) refl
     at true e = rw (eq-eqb k 1 (h (eqb-true b 48 e)))
     at false e = or-true (eqb k 1)
 
-module _ (form : FieldForm) (s : List ℕ) (at end : ℕ) (ends : end ≡ at + run (baseOf form) (drop at s)) where
-  digits : end - at ≡ run (baseOf form) (drop at s)
+module _ (form : FieldForm) (s : List ℕ) (at end : ℕ) (ends : end ≡ at + digitCount (baseOf form) (drop at s)) where
+  digits : end - at ≡ digitCount (baseOf form) (drop at s)
   digits = omega arith
 
   no-field : isField form (end - at) (drop at s) ≡ false → none ≡ fieldIn form (drop at s)
@@ -130,7 +130,7 @@ module _ (form : FieldForm) (s : List ℕ) (at end : ℕ) (ends : end ≡ at + r
   unfolding fieldIn
   is-field v q e = let f : at + (end - at) ≡ end = omega arith in rw (← digits, e, q, drop-drop, f)
 
-module _ (limit : ℕ) (s : List ℕ) (at end : ℕ) (ends : end ≡ at + run 10 (drop at s)) where
+module _ (limit : ℕ) (s : List ℕ) (at end : ℕ) (ends : end ≡ at + digitCount 10 (drop at s)) where
   head : front (drop at s) ≡ getD s at 0
   head = let e : at + 0 ≡ at = omega arith in rw (getD-drop, e)
 
@@ -160,19 +160,19 @@ module _ (limit : ℕ) (s : List ℕ) (at end : ℕ) (ends : end ≡ at + run 10
 -- the run's own length, or the count that is asked for
 pub bits-form : (s : List ℕ) → fieldIn Bits s ≡ hexadecimalIn 8 s
 unfolding fieldIn isField
-bits-form s = at (eqb (run 16 s) 8) refl
+bits-form s = at (eqb (digitCount 16 s) 8) refl
   where
-    at : (t : Bool) → eqb (run 16 s) 8 ≡ t → cond t (field (numeral 16 (run 16 s) s) (drop (run 16 s) s)) none ≡ cond t (field (numeral 16 8 s) (drop 8 s)) none
-    at true e = let k : run 16 s ≡ 8 = eqb-true _ _ e in rw k
+    at : (t : Bool) → eqb (digitCount 16 s) 8 ≡ t → cond t (field (numeral 16 (digitCount 16 s) s) (drop (digitCount 16 s) s)) none ≡ cond t (field (numeral 16 8 s) (drop 8 s)) none
+    at true e = let k : digitCount 16 s ≡ 8 = eqb-true _ _ e in rw k
     at false e = refl
 
-module _ (s : List ℕ) (at end : ℕ) (ends : end ≡ at + run 16 (drop at s)) (n : ℕ) where
+module _ (s : List ℕ) (at end : ℕ) (ends : end ≡ at + digitCount 16 (drop at s)) (n : ℕ) where
   pub bits-none : (end - at ≡ n → ⊥) → none ≡ hexadecimalIn n (drop at s)
-  bits-none h = rw (ne-eqb (run 16 (drop at s)) n (λ e. h (omega arith)))
+  bits-none h = rw (ne-eqb (digitCount 16 (drop at s)) n (λ e. h (omega arith)))
 
   pub bits-read : (most v : ℕ) → Counted 16 most (end - at) (drop at s) v → 16 ^ (n - 1) ≤ most + 1 → end - at ≡ n → field v (drop end s) ≡ hexadecimalIn n (drop at s)
   bits-read most v c p h =
       let f : at + n ≡ end = omega arith in
       let small : numeral 16 (n - 1) (drop at s) < 16 ^ (n - 1) = numeral-small 16 (drop at s) (n - 1) (omega arith) in
       let q : v ≡ numeral 16 n (drop at s) = exact 16 most (drop at s) n v (rw h at c) (omega arith) in
-      rw (eq-eqb (run 16 (drop at s)) n (omega arith), drop-drop, f, q)
+      rw (eq-eqb (digitCount 16 (drop at s)) n (omega arith), drop-drop, f, q)

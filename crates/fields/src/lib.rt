@@ -4,7 +4,7 @@ ghost use mathlib.Core.Path.{_≡_};
 ghost use mathlib.Core.Bool.{cond};
 ghost use Prim.Native.Nat.{ℕ, _+_, _-_, _<_, _≤_, _^_};
 ghost use lib.ListN.{length, getD, drop};
-ghost use Rattle.model.specs.Text.{digit, run, fieldIn, begins};
+ghost use Rattle.model.specs.Text.{digit, digitCount, fieldIn, begins};
 ghost use Rattle.model.specs.declared.FieldForm.the-variants as FieldForm;
 ghost use Rattle.fields.specs.Found.{found};
 ghost use Rattle.fields.specs.Wide.{hexadecimalIn, wideBitsIn};
@@ -81,7 +81,7 @@ struct Digits {
 // The run that begins at `at`. Once its number is above `most` it is not counted further, so that a long run cannot overflow.
 fn digits_at(text: &[u8], at: usize, base: usize, most: usize) -> Digits
     requires { ⌜ (1 ≤ base) × (base ≤ 16) × (most < 2 ^ 60) ⌝ }
-    ensures { λ r. ⌜ (r .end ≡ at + run base (drop at (now (text .entry)))) × Counted base most (r .end - at) (drop at (now (text .entry))) (r .value) ⌝ }
+    ensures { λ r. ⌜ (r .end ≡ at + digitCount base (drop at (now (text .entry)))) × Counted base most (r .end - at) (drop at (now (text .entry))) (r .value) ⌝ }
 {
     let mut value: usize = 0;
     let mut i = at;

@@ -36,7 +36,7 @@ use Rattle.blend_tree.specs.Blocks.{Playable}
 use Rattle.skeleton.specs.Buffer.{Paged}
 use Rattle.transitions.specs.Step.{StepMade}
 use Rattle.output_pose.specs.Shown.{Shown}
-use Rattle.frames.specs.Parts.{playerOf, outcomeOf, FrameAnswered, Played}
+use Rattle.frames.specs.Parts.{playerOf, outcomeOf, FrameAnswered, FramePlayed}
 use Rattle.frames.specs.declared.FrameParts.{FrameParts}
 use Rattle.frames.specs.declared.Parts.{Parts}
 
@@ -66,7 +66,7 @@ module _ (plan : List ℕ) (numbers : List Float) (p : Player) (ext : Float) (r 
 
   module _ (here : StateLayout) (there : here ≡ stateLayout plan (r .state)) (time : Float) (told : time ≡ elapsed p ext) (after old new : List Float)
       (done : Shown plan numbers time (nowAt p ext) (here .state) (r .transition) (p .parameters) (p .instances) after old new) where
-    pub played : Played plan numbers p ext old new (withInstances after-step after)
+    pub played : FramePlayed plan numbers p ext old new (withInstances after-step after)
     unfolding framePlayer frameMatrices shown
     played =
         record {
@@ -158,7 +158,7 @@ module _ (plan : List ℕ) (numbers : List Float) (parts : Parts) (parameters in
       unfolding values
       now-accepted = sym answer-is ∙ ap values e
 
-      pub frame-accepted : (new : List Float) (q : Player) → Played plan numbers lent ext old new q → Framed Ordinary plan numbers lent ext old new (record { answer = a; player = q })
+      pub frame-accepted : (new : List Float) (q : Player) → FramePlayed plan numbers lent ext old new q → Framed Ordinary plan numbers lent ext old new (record { answer = a; player = q })
       unfolding unlessRefused
       frame-accepted new q done = record { answer = answer-is; player = rw now-accepted (done .player); output = rw now-accepted (done .output) }
 

@@ -36,6 +36,6 @@ pub record FrameAnswered (layout : Layout) (parts : Parts) (outputLength : ℕ) 
       → values r ≡ frameVerdict plan numbers (playerOf parts parameters instances) outputLength
 
 -- a frame that nothing refuses: p becomes q, and the output changes from `old` to `new`
-pub record Played (plan : List ℕ) (numbers : List Float) (p : Player) (ext : Float) (old new : List Float) (q : Player) : Type 0 where
+pub record FramePlayed (plan : List ℕ) (numbers : List Float) (p : Player) (ext : Float) (old new : List Float) (q : Player) : Type 0 where
   pub player : q ≡ framePlayer plan numbers p ext
   pub output : new ≡ written plan (frameMatrices plan numbers p ext Ordinary) old

@@ -32,7 +32,7 @@ ghost use Rattle.model.specs.Controller.{isTargetBelow};
 ghost use Rattle.model.specs.Promises.{Framed};
 ghost use Rattle.layout.specs.Layout.{layoutOf, stateLayout, Passes, InPlan};
 ghost use Rattle.blend_tree.specs.Blocks.{Playable};
-ghost use Rattle.frames.specs.Parts.{moved, playerOf, outcomeOf, FrameAnswered, Played};
+ghost use Rattle.frames.specs.Parts.{moved, playerOf, outcomeOf, FrameAnswered, FramePlayed};
 
 // What a frame reads of a player beside its arrays.
 pub struct Parts {
@@ -98,7 +98,7 @@ fn play(
     output: &mut [f32],
 ) -> Stepped
     requires { ⌜ Playable (now plan) (now numbers) layout × (parts .state < stateCount (now plan)) × (isTargetBelow (stateCount (now plan)) (parts .transition) ≡ true) × (outputAt (jointCount (now plan)) ≤ length (now output)) ⌝ }
-    ensures { λ r. ⌜ Played (now (plan .entry)) (now (numbers .entry)) (playerOf parts (now (parameters .entry)) (now (instances .entry))) ext (now (output .entry)) (now (output .exit)) (playerOf (moved parts (r .state) (r .transition)) (now (parameters .entry)) (now (instances .exit))) ⌝ }
+    ensures { λ r. ⌜ FramePlayed (now (plan .entry)) (now (numbers .entry)) (playerOf parts (now (parameters .entry)) (now (instances .entry))) ext (now (output .entry)) (now (output .exit)) (playerOf (moved parts (r .state) (r .transition)) (now (parameters .entry)) (now (instances .exit))) ⌝ }
 {
     let clock = parts.clock;
     let speed = parts.speed;

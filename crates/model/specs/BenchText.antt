@@ -5,7 +5,7 @@ use Prim.Native.String.{String, [], _∷_}
 use mathlib.Core.Path.{_≡_, refl}
 use mathlib.Core.List.{List, [] as []ᴸ, _∷_ as _∷ᴸ_, _++_}
 use Rattle.model.specs.declared.LineKind.the-variants.{Figure, Joint, Clip, State, Node, Go, Pose}
-use Rattle.model.specs.Text.{digit, run, numeral, isField, fieldIn, name, forms, withField, fieldThen, fieldsIn, begins, lineIn, wordsIn, bitsIn, prefixed, andThen, times, fromLine, readLine, fromState, readState, readEnd, readFigure}
+use Rattle.model.specs.Text.{digit, digitCount, numeral, isField, fieldIn, name, forms, withField, fieldThen, fieldsIn, begins, lineIn, wordsIn, bitsIn, prefixed, andThen, times, fromLine, readLine, fromState, readState, readEnd, readFigure}
 use Rattle.model.specs.Program.{glyph, digits, places, decimalText, bitsText, decimalFields, bitsFields, refusedLine, jointLine, joined, played, printedFrom, printed}
 use Rattle.model.specs.Laws.Opened.{all-opened}
 
@@ -38,5 +38,5 @@ exampleOutput =
     bytes "joint,0,3f800000,00000000,00000000,3f800000,00000000,3f800000,00000000,40000000,00000000,00000000,3f800000,40400000,00000000,00000000,00000000,3f800000\n"
 
 pub printed-example : printed exampleText ≡ exampleOutput
-unfolding all-opened digit run numeral isField fieldIn name forms withField fieldThen fieldsIn begins lineIn wordsIn bitsIn prefixed andThen times fromLine readLine fromState readState readEnd readFigure glyph digits places decimalText bitsText decimalFields bitsFields jointLine joined played printedFrom printed bytes exampleText exampleOutput
+unfolding all-opened digit digitCount numeral isField fieldIn name forms withField fieldThen fieldsIn begins lineIn wordsIn bitsIn prefixed andThen times fromLine readLine fromState readState readEnd readFigure glyph digits places decimalText bitsText decimalFields bitsFields jointLine joined played printedFrom printed bytes exampleText exampleOutput
 printed-example = refl

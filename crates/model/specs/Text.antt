@@ -33,9 +33,9 @@ unfoldable pub digit : ℕ → ℕ
 digit b = cond (within 48 b 57) (b - 48) (cond (within 97 b 102) (b - 87) 16)
 
 -- how many digits of a base stand in front
-unfoldable pub run : ℕ → List ℕ → ℕ
-run base [] = 0
-run base (b ∷ s) = cond (ltb (digit b) base) (suc (run base s)) 0
+unfoldable pub digitCount : ℕ → List ℕ → ℕ
+digitCount base [] = 0
+digitCount base (b ∷ s) = cond (ltb (digit b) base) (suc (digitCount base s)) 0
 
 -- the number that the first k digits write
 unfoldable pub numeral : ℕ → ℕ → List ℕ → ℕ
@@ -58,7 +58,7 @@ pub data Field : Type 0 where
   field : (value : ℕ) (rest : List ℕ) → Field
 
 unfoldable pub fieldIn : FieldForm → List ℕ → Field
-fieldIn form s = let k = run (baseOf form) s in cond (isField form k s) (field (numeral (baseOf form) k s) (drop k s)) none
+fieldIn form s = let k = digitCount (baseOf form) s in cond (isField form k s) (field (numeral (baseOf form) k s) (drop k s)) none
 
 -- ---- a line: its name, its fields with a comma before each, LF
 

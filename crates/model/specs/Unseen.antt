@@ -21,11 +21,11 @@ pub data Read (plan : List ℕ) : ℕ → Type 0 where
   byCondition : {s : ℕ} → Reachable plan s → (t : ℕ) → t < transitionCount plan s → Read plan (conditionParameter plan s t)
 
 -- the plan has such a number
-abbrev pub InPlan : List ℕ → NumberName → Type 0
-InPlan plan (Rate c) = c < clipCount plan
-InPlan plan (Value s t) = (s < stateCount plan) × (t < transitionCount plan s)
-InPlan plan (Duration s t) = (s < stateCount plan) × (t < transitionCount plan s)
-InPlan plan (PoseFloat c n j k) = (c < clipCount plan) × (n < sampleCount plan c) × (j < jointCount plan) × (k < 8)
+abbrev pub HasNumber : List ℕ → NumberName → Type 0
+HasNumber plan (Rate c) = c < clipCount plan
+HasNumber plan (Value s t) = (s < stateCount plan) × (t < transitionCount plan s)
+HasNumber plan (Duration s t) = (s < stateCount plan) × (t < transitionCount plan s)
+HasNumber plan (PoseFloat c n j k) = (c < clipCount plan) × (n < sampleCount plan c) × (j < jointCount plan) × (k < 8)
 
 -- 'unseen', for each kind of number. Of the calls' part of the list, `AlikeCall` of the crate noninterference leaves values of unread parameters open,
 -- and a `Call` does not even hold the old contents of its output buffer

@@ -9,7 +9,7 @@ use lib.Ieee.{Float, nan}
 use Rattle.model.specs.declared.FrameKind.{FrameKind}
 use Rattle.model.specs.Plan.{jointCount, parent, isRoot, NumberName, numberAt}
 use Rattle.model.specs.Run.{Call, Update, Speed, Set, Frame}
-use Rattle.model.specs.Unseen.{Read, InPlan, Unseen}
+use Rattle.model.specs.Unseen.{Read, HasNumber, Unseen}
 
 -- a 'closed set' of joints has each member's parent, unless that member is a root
 pub record Closed (plan chosen : List ℕ) : Type 0 where
@@ -19,7 +19,7 @@ pub record Closed (plan chosen : List ℕ) : Type 0 where
 -- place k holds an unseen number
 pub record UnseenAt (plan chosen : List ℕ) (k : ℕ) : Type 0 where
   pub name : NumberName
-  pub in-plan : InPlan plan name
+  pub in-plan : HasNumber plan name
   pub here : numberAt plan name ≡ k
   pub unseen : Unseen plan chosen name
 

@@ -4,7 +4,7 @@ use mathlib.Core.Path.{_≡_, refl}
 use mathlib.Core.List.{List, [], _∷_}
 use Rattle.model.specs.Plan.{word, jointCount, clipCount, stateCount, sampleCountAt, sampleCount, afterNodes, afterTransitions, stateAt, nodeCount, kindAt, transitionCountAt, transitionCount, conditionParameterAt, total, transitionsBefore, samplesBefore, posesAt, numberAt}
 use Rattle.model.specs.Check.{within}
-use Rattle.model.specs.Text.{digit, run, numeral, isField, fieldIn, name, forms, withField, fieldThen, fieldsIn, begins, lineIn, wordsIn, bitsIn, got, prefixed, andThen, times, fromLine, readLine, fromState, readState, readEnd, readFigure}
+use Rattle.model.specs.Text.{digit, digitCount, numeral, isField, fieldIn, name, forms, withField, fieldThen, fieldsIn, begins, lineIn, wordsIn, bitsIn, got, prefixed, andThen, times, fromLine, readLine, fromState, readState, readEnd, readFigure}
 use Rattle.model.specs.Program.{glyph, digits, places, decimalText, bitsText, decimalFields, bitsFields, joined, part, fieldsText, lineText, stateText, figureText}
 use Rattle.round_trip.specs.Counted.{Counted}
 use Rattle.round_trip.specs.Theorems.{writes-back}
@@ -18,7 +18,7 @@ bits = 0x3f800000 ∷ 0x7fc00001 ∷ 0x3f000000 ∷ 0 ∷ 0 ∷ 0x80000000 ∷ 0
 
 -- seven lines
 pub read-back : readFigure (figureText plan bits) ≡ got plan bits [] 7
-unfolding plan bits word jointCount clipCount stateCount sampleCountAt sampleCount afterNodes afterTransitions stateAt nodeCount kindAt transitionCountAt transitionCount conditionParameterAt total transitionsBefore samplesBefore posesAt numberAt within digit run numeral isField fieldIn name forms withField fieldThen fieldsIn begins lineIn wordsIn bitsIn prefixed andThen times fromLine readLine fromState readState readEnd readFigure glyph digits places decimalText bitsText decimalFields bitsFields joined part fieldsText lineText stateText figureText
+unfolding plan bits word jointCount clipCount stateCount sampleCountAt sampleCount afterNodes afterTransitions stateAt nodeCount kindAt transitionCountAt transitionCount conditionParameterAt total transitionsBefore samplesBefore posesAt numberAt within digit digitCount numeral isField fieldIn name forms withField fieldThen fieldsIn begins lineIn wordsIn bitsIn prefixed andThen times fromLine readLine fromState readState readEnd readFigure glyph digits places decimalText bitsText decimalFields bitsFields joined part fieldsText lineText stateText figureText
 read-back = refl
 
 pub counted : Counted plan bits

@@ -20,7 +20,7 @@ use Rattle.text.specs.declared.put.Step.{Step}
 use Rattle.text.specs.declared.put.Step.the-variants.{Next, Malformed}
 use Rattle.text.specs.Figures.{sampled, readPoses, readMotion}
 use Rattle.lines.specs.Found.{lineFound}
-use Rattle.text.specs.Steps.{InText, behindLine, withWord, LineAt, Put, stepped}
+use Rattle.text.specs.Steps.{InText, behindLine, withWord, LineAt, Put, ReadAs}
 use Rattle.lines.proofs.LineEnd.{the-type as end-type}
 use Rattle.text.proofs.put.Step.{the-type as step-type}
 use Rattle.text.proofs.Laws.{put-more, put-word, put-behind, follows, goes, stops, moved-nothing}
@@ -29,19 +29,19 @@ use Rattle.text.proofs.LineLaws.{next-of, line-bad, line-read, line-byt
 -- ---- the end
 
 module _ (text : List ℕ) (r : Progress) (p : List ℕ) (n : List Float) where
-  pub end-stops : r .at < length text → stepped text r p p n n (Malformed (r .line + 1)) (readEnd (drop (r .at) text))
-  unfolding stepped readEnd
+  pub end-stops : r .at < length text → ReadAs text r p p n n (Malformed (r .line + 1)) (readEnd (drop (r .at) text))
+  unfolding ReadAs readEnd
   end-stops h = rw (ne-eqb (length (drop (r .at) text)) 0 (λ e. omega (arith, length-drop (r .at) text)))
 
-  pub end-steps : InText text r → length text ≤ r .at → stepped text r p p n n (Next r) (readEnd (drop (r .at) text))
-  unfolding stepped readEnd
+  pub end-steps : InText text r → length text ≤ r .at → ReadAs text r p p n n (Next r) (readEnd (drop (r .at) text))
+  unfolding ReadAs readEnd
   end-steps i h = rw (eq-eqb (length (drop (r .at) text)) 0 (omega (arith, length-drop (r .at) text))) (moved-nothing text r [] p n i (sym (drop-of-length-le text h)))
 
 -- ---- a state: its counts stand in one line of the text, and apart in the plan
 
 pub state-stops : (text values : List ℕ) (r : Progress) (found : LineEnd) → lineFound text (take (fieldCount State) values) found (lineIn State (drop (r .at) text))
-    → (p₀ p₁ : List ℕ) (n₀ n₁ : List Float) → tagOf end-type found ≡ 1 → stepped text r p₀ p₁ n₀ n₁ (Malformed (r .line + 1)) (readState (drop (r .at) text))
-unfolding stepped readState fromState
+    → (p₀ p₁ : List ℕ) (n₀ n₁ : List Float) → tagOf end-type found ≡ 1 → ReadAs text r p₀ p₁ n₀ n₁ (Malformed (r .line + 1)) (readState (drop (r .at) text))
+unfolding ReadAs readState fromState
 state-stops text values r found told p₀ p₁ n₀ n₁ t = rw (line-bad State text values r found told t)
 
 module _ {text values : List ℕ} {r : Progress} {at : ℕ} (l : LineAt State text values r at) where
@@ -74,16 +74,16 @@ module _ {text values : List ℕ} {r : Progress} {at : ℕ} (l : LineAt State te
   counts-small = (omega (arith, line-values l .bounded 0 (omega arith) .1), omega (arith, line-values l .bounded 1 (omega arith) .1))
 
   -- behind the nodes
-  module _ (f : Progress) (begun : f ≡ first) (p₁ p₂ : List ℕ) (n₀ n₁ : List Float) (step : Step) (a : stepped text f p₁ p₂ n₀ n₁ step (times nodes (readLine Node) (drop (f .at) text))) where
-    nodes-read : stepped text first p₁ p₂ n₀ n₁ step (times nodes (readLine Node) (drop at text))
+  module _ (f : Progress) (begun : f ≡ first) (p₁ p₂ : List ℕ) (n₀ n₁ : List Float) (step : Step) (a : ReadAs text f p₁ p₂ n₀ n₁ step (times nodes (readLine Node) (drop (f .at) text))) where
+    nodes-read : ReadAs text first p₁ p₂ n₀ n₁ step (times nodes (readLine Node) (drop at text))
     nodes-read = rw begun at a
 
     -- the line had room for the count of transitions too
     pub behind-here : (q : Progress) → step ≡ Next q → InText text (withWord q)
-    unfolding stepped
-    behind-here q e = to (times nodes (readLine Node) (drop at text)) (subst (λ (s : Step). stepped text first p₁ p₂ n₀ n₁ s (times nodes (readLine Node) (drop at text))) e nodes-read)
+    unfolding ReadAs
+    behind-here q e = to (times nodes (readLine Node) (drop at text)) (subst (λ (s : Step). ReadAs text first p₁ p₂ n₀ n₁ s (times nodes (readLine Node) (drop at text))) e nodes-read)
       where
-        to : (x : Reading) → stepped text first p₁ p₂ n₀ n₁ (Next q) x → InText text (withWord q)
+        to : (x : Reading) → ReadAs text first p₁ p₂ n₀ n₁ (Next q) x → InText text (withWord q)
         to (got ws bs rest n) m = let b = bytes in record { spent = omega (arith, l .here .spent, m .put .words, m .put .numbers); inside = m .inside }
         to (bad n) m = absurd m
 
@@ -91,7 +91,7 @@ module _ {text values : List ℕ} {r : Progress} {at : ℕ} (l : LineAt State te
       counted : Put (nodes ∷ []) [] r first p₀ p₁ n₀ n₀
       counted = put-behind r first at (put-word nodes (behindLine r at) p₀ p₁ n₀ (rw line at put))
 
-      pub nodes-stop : tagOf step-type step ≡ 1 → stepped text r p₀ p₂ n₀ n₁ step (readState (drop (r .at) text))
+      pub nodes-stop : tagOf step-type step ≡ 1 → ReadAs text r p₀ p₂ n₀ n₁ step (readState (drop (r .at) text))
       nodes-stop t =
           let b = bytes in
           rw state-read (follows text r first p₀ p₁ p₂ n₀ n₀ n₁ (nodes ∷ []) [] 1 step _
@@ -99,17 +99,17 @@ module _ {text values : List ℕ} {r : Progress} {at : ℕ} (l : LineAt State te
           (stops text first p₁ p₂ n₀ n₁ (times nodes (readLine Node) (drop at text)) step nodes-read (λ _. afterNodes) t))
 
       pub state-steps : (q g : Progress) (p₃ p₄ : List ℕ) (n₂ : List Float) (last : Step) → step ≡ Next q → g ≡ withWord q → p₃ ≡ sets p₂ (q .words) (transitions ∷ [])
-          → stepped text g p₃ p₄ n₁ n₂ last (times transitions (readLine Go) (drop (g .at) text)) → stepped text r p₀ p₄ n₀ n₂ last (readState (drop (r .at) text))
-      unfolding stepped prefixed andThen afterNodes
+          → ReadAs text g p₃ p₄ n₁ n₂ last (times transitions (readLine Go) (drop (g .at) text)) → ReadAs text r p₀ p₄ n₀ n₂ last (readState (drop (r .at) text))
+      unfolding ReadAs prefixed andThen afterNodes
       state-steps q g p₃ p₄ n₂ last e first-go then b =
-          rw state-read (of (times nodes (readLine Node) (drop at text)) (subst (λ (s : Step). stepped text first p₁ p₂ n₀ n₁ s (times nodes (readLine Node) (drop at text))) e nodes-read))
+          rw state-read (of (times nodes (readLine Node) (drop at text)) (subst (λ (s : Step). ReadAs text first p₁ p₂ n₀ n₁ s (times nodes (readLine Node) (drop at text))) e nodes-read))
         where
-          of : (x : Reading) → stepped text first p₁ p₂ n₀ n₁ (Next q) x → stepped text r p₀ p₄ n₀ n₂ last (prefixed (nodes ∷ []) [] 1 (andThen x (λ _. afterNodes)))
+          of : (x : Reading) → ReadAs text first p₁ p₂ n₀ n₁ (Next q) x → ReadAs text r p₀ p₄ n₀ n₂ last (prefixed (nodes ∷ []) [] 1 (andThen x (λ _. afterNodes)))
           of (bad n) m = absurd m
           of (got ws bs rest n) m = rw (m .left) (both last (times transitions (readLine Go) (drop (q .at) text)) (rw first-go at b))
             where
-              both : (last : Step) (y : Reading) → stepped text (withWord q) p₃ p₄ n₁ n₂ last y
-                  → stepped text r p₀ p₄ n₀ n₂ last (prefixed (nodes ∷ []) [] 1 (prefixed ws bs n (prefixed (transitions ∷ []) [] 0 y)))
+              both : (last : Step) (y : Reading) → ReadAs text (withWord q) p₃ p₄ n₁ n₂ last y
+                  → ReadAs text r p₀ p₄ n₀ n₂ last (prefixed (nodes ∷ []) [] 1 (prefixed ws bs n (prefixed (transitions ∷ []) [] 0 y)))
               both (Next z) (bad k) g = g
               both (Malformed k) (got vs cs left k′) g = g
               both (Malformed k) (bad k′) g = omega arith
@@ -141,12 +141,12 @@ module _ {text values : List ℕ} {q : Progress} {at : ℕ} (l : LineAt Clip tex
   few-samples = line-values l .bounded 0 (omega arith) .0
 
   pub sampled-next : (r : Progress) (p₀ p₁ : List ℕ) (n₀ n₁ : List Float) (i m : ℕ)
-      → stepped text r p₀ p₁ n₀ n₁ (Next q) (times i (readLine Clip) (drop (r .at) text)) → sampled i m (times i (readLine Clip) (drop (r .at) text))
+      → ReadAs text r p₀ p₁ n₀ n₁ (Next q) (times i (readLine Clip) (drop (r .at) text)) → sampled i m (times i (readLine Clip) (drop (r .at) text))
       → sampled (i + 1) (m + getD values 0 0) (times (i + 1) (readLine Clip) (drop (r .at) text))
-  unfolding stepped sampled andThen prefixed times forms wordsIn bitsIn
+  unfolding ReadAs sampled andThen prefixed times forms wordsIn bitsIn
   sampled-next r p₀ p₁ n₀ n₁ i m a b = rw add-one (more (times i (readLine Clip) (drop (r .at) text)) a b)
     where
-      more : (x : Reading) → stepped text r p₀ p₁ n₀ n₁ (Next q) x → sampled i m x → sampled (suc i) (m + getD values 0 0) (andThen x (λ _. readLine Clip))
+      more : (x : Reading) → ReadAs text r p₀ p₁ n₀ n₁ (Next q) x → sampled i m x → sampled (suc i) (m + getD values 0 0) (andThen x (λ _. readLine Clip))
       more (bad n) a b = absurd a
       more (got ws bs rest n) a b =
           let v = getD values 0 0 in
@@ -162,8 +162,8 @@ pub sampled-ends : (s : List ℕ) (i count m : ℕ) → sampled i m (times i (re
 sampled-ends s i count m a h k = let e : count ≡ i = omega arith in rw e a
 
 pub sampled-bad : (text : List ℕ) (r : Progress) (p₀ p₁ : List ℕ) (n₀ n₁ : List Float) (x : Reading) (step : Step) (count m : ℕ)
-    → tagOf step-type step ≡ 1 → stepped text r p₀ p₁ n₀ n₁ step x → sampled count m x
-unfolding stepped sampled
+    → tagOf step-type step ≡ 1 → ReadAs text r p₀ p₁ n₀ n₁ step x → sampled count m x
+unfolding ReadAs sampled
 sampled-bad text r p₀ p₁ n₀ n₁ (got ws bs rest n) (Malformed line) count m t a = absurd a
 sampled-bad text r p₀ p₁ n₀ n₁ (got ws bs rest n) (Next q) count m t a = absurd (omega (arith, t))
 sampled-bad text r p₀ p₁ n₀ n₁ (bad n) step count m t a = tt
@@ -171,24 +171,24 @@ sampled-bad text r p₀ p₁ n₀ n₁ (bad n) step count m t a = tt
 -- ---- clips, states and poses
 
 pub sampled-sum : (text : List ℕ) (r q : Progress) (p₀ p₁ : List ℕ) (n₀ n₁ : List Float) (x : Reading) (count m : ℕ) (step : Step)
-    → step ≡ Next q → stepped text r p₀ p₁ n₀ n₁ step x → sampled count m x → (m ≡ total (λ c. getD (readWords x) c 0) count) × (m ≤ count * maxSamples)
-unfolding stepped sampled readWords
+    → step ≡ Next q → ReadAs text r p₀ p₁ n₀ n₁ step x → sampled count m x → (m ≡ total (λ c. getD (readWords x) c 0) count) × (m ≤ count * maxSamples)
+unfolding ReadAs sampled readWords
 sampled-sum text r q p₀ p₁ n₀ n₁ (got ws bs rest n) count m step e a b = (b .1, b .2)
-sampled-sum text r q p₀ p₁ n₀ n₁ (bad n) count m step e a b = absurd (subst (λ (s : Step). stepped text r p₀ p₁ n₀ n₁ s (bad n)) e a)
+sampled-sum text r q p₀ p₁ n₀ n₁ (bad n) count m step e a b = absurd (subst (λ (s : Step). ReadAs text r p₀ p₁ n₀ n₁ s (bad n)) e a)
 
 pub poses-fit : (m joints clips : ℕ) → m ≤ clips * maxSamples → clips ≤ maxClips → joints ≤ maxJoints → m * joints < 2 ^ 64
 poses-fit m joints clips h k l = let few : m ≤ 65536 = omega arith in omega (arith, mul-le-mul few l)
 
 module _ (text : List ℕ) (joints clips states : ℕ) (r : Progress) (p₀ p₁ : List ℕ) (n₀ n₁ : List Float) (first : Step)
-    (a : stepped text r p₀ p₁ n₀ n₁ first (times clips (readLine Clip) (drop (r .at) text))) where
-  pub clips-stop : tagOf step-type first ≡ 1 → stepped text r p₀ p₁ n₀ n₁ first (readMotion joints clips states (drop (r .at) text))
+    (a : ReadAs text r p₀ p₁ n₀ n₁ first (times clips (readLine Clip) (drop (r .at) text))) where
+  pub clips-stop : tagOf step-type first ≡ 1 → ReadAs text r p₀ p₁ n₀ n₁ first (readMotion joints clips states (drop (r .at) text))
   unfolding readMotion
   clips-stop t = stops text r p₀ p₁ n₀ n₁ (times clips (readLine Clip) (drop (r .at) text)) first a _ t
 
   -- behind m samples come the states and m poses of each joint
   pub clips-then : (q : Progress) (m : ℕ) (p₂ : List ℕ) (n₂ : List Float) (step : Step) → first ≡ Next q → sampled clips m (times clips (readLine Clip) (drop (r .at) text))
-      → stepped text q p₁ p₂ n₁ n₂ step (andThen (times states readState (drop (q .at) text)) (λ _. readPoses (m * joints)))
-      → stepped text r p₀ p₂ n₀ n₂ step (readMotion joints clips states (drop (r .at) text))
+      → ReadAs text q p₁ p₂ n₁ n₂ step (andThen (times states readState (drop (q .at) text)) (λ _. readPoses (m * joints)))
+      → ReadAs text r p₀ p₂ n₀ n₂ step (readMotion joints clips states (drop (r .at) text))
   unfolding readMotion
   clips-then q m p₂ n₂ step e s b =
       let sum = sampled-sum text r q p₀ p₁ n₀ n₁ (times clips (readLine Clip) (drop (r .at) text)) clips m first e a s .0 in

@@ -15,7 +15,7 @@ use Rattle.text.specs.declared.put.Progress.{Progress}
 use Rattle.text.specs.declared.put.Step.{Step}
 use Rattle.text.specs.declared.put.Step.the-variants.{Next, Malformed}
 use Rattle.model.specs.Laws.Stores.{sets-append}
-use Rattle.text.specs.Steps.{InText, behindLine, withWord, Put, Moved, stepped}
+use Rattle.text.specs.Steps.{InText, behindLine, withWord, Put, Moved, ReadAs}
 use Rattle.text.proofs.put.Step.{the-type as step-type}
 
 -- ---- what is put
@@ -51,22 +51,22 @@ put-behind r q at put = record { words = put .words; numbers = put .numbers; pla
 
 -- ---- one reading after another
 
-module _ (text : List ℕ) (r : Progress) (p₀ p₁ : List ℕ) (n₀ n₁ : List Float) (x : Reading) (step : Step) (a : stepped text r p₀ p₁ n₀ n₁ step x) where
+module _ (text : List ℕ) (r : Progress) (p₀ p₁ : List ℕ) (n₀ n₁ : List Float) (x : Reading) (step : Step) (a : ReadAs text r p₀ p₁ n₀ n₁ step x) where
   -- after a bad line nothing is read
-  pub stops : (next : List ℕ → List ℕ → Reading) → tagOf step-type step ≡ 1 → stepped text r p₀ p₁ n₀ n₁ step (andThen x next)
-  unfolding stepped andThen
+  pub stops : (next : List ℕ → List ℕ → Reading) → tagOf step-type step ≡ 1 → ReadAs text r p₀ p₁ n₀ n₁ step (andThen x next)
+  unfolding ReadAs andThen
   stops next t = at x step t a
     where
-      at : (x : Reading) (step : Step) → tagOf step-type step ≡ 1 → stepped text r p₀ p₁ n₀ n₁ step x → stepped text r p₀ p₁ n₀ n₁ step (andThen x next)
+      at : (x : Reading) (step : Step) → tagOf step-type step ≡ 1 → ReadAs text r p₀ p₁ n₀ n₁ step x → ReadAs text r p₀ p₁ n₀ n₁ step (andThen x next)
       at x (Next z) t a = absurd (omega (arith, t))
       at (got ws bs rest n) (Malformed l) t a = absurd a
       at (bad n) (Malformed l) t a = a
 
   pub arrives : (q : Progress) → InText text r → step ≡ Next q → InText text q
-  unfolding stepped
-  arrives q i e = at x (subst (λ (s : Step). stepped text r p₀ p₁ n₀ n₁ s x) e a)
+  unfolding ReadAs
+  arrives q i e = at x (subst (λ (s : Step). ReadAs text r p₀ p₁ n₀ n₁ s x) e a)
     where
-      at : (x : Reading) → stepped text r p₀ p₁ n₀ n₁ (Next q) x → InText text q
+      at : (x : Reading) → ReadAs text r p₀ p₁ n₀ n₁ (Next q) x → InText text q
       at (got ws bs rest n) a = record { spent = omega arith; inside = a .inside }
       at (bad n) a = absurd a
 
@@ -84,19 +84,19 @@ module _ (text : List ℕ) (r q : Progress) (p₀ p₁ p₂ : List ℕ) (n₀ n�
 
   -- what is read behind what was read before
   pub follows : (ws bs : List ℕ) (n : ℕ) (step : Step) (x : Reading) → Moved text ws bs (drop (q .at) text) n r q p₀ p₁ n₀ n₁
-      → stepped text q p₁ p₂ n₁ n₂ step x → stepped text r p₀ p₂ n₀ n₂ step (prefixed ws bs n x)
-  unfolding stepped prefixed
+      → ReadAs text q p₁ p₂ n₁ n₂ step x → ReadAs text r p₀ p₂ n₀ n₂ step (prefixed ws bs n x)
+  unfolding ReadAs prefixed
   follows ws bs n (Next z) (got ws′ bs′ rest m) a b = moved-more ws bs (drop (q .at) text) ws′ bs′ rest n m z a b
   follows ws bs n (Next z) (bad m) a b = b
   follows ws bs n (Malformed l) (got ws′ bs′ rest m) a b = b
   follows ws bs n (Malformed l) (bad m) a b = omega arith
 
-  pub goes : (x : Reading) (next : List ℕ → List ℕ → Reading) (first last : Step) → first ≡ Next q → stepped text r p₀ p₁ n₀ n₁ first x
-      → stepped text q p₁ p₂ n₁ n₂ last (next (readWords x) (drop (q .at) text)) → stepped text r p₀ p₂ n₀ n₂ last (andThen x next)
-  unfolding stepped andThen readWords
-  goes x next first last e a b = at x (subst (λ (s : Step). stepped text r p₀ p₁ n₀ n₁ s x) e a) b
+  pub goes : (x : Reading) (next : List ℕ → List ℕ → Reading) (first last : Step) → first ≡ Next q → ReadAs text r p₀ p₁ n₀ n₁ first x
+      → ReadAs text q p₁ p₂ n₁ n₂ last (next (readWords x) (drop (q .at) text)) → ReadAs text r p₀ p₂ n₀ n₂ last (andThen x next)
+  unfolding ReadAs andThen readWords
+  goes x next first last e a b = at x (subst (λ (s : Step). ReadAs text r p₀ p₁ n₀ n₁ s x) e a) b
     where
-      at : (x : Reading) → stepped text r p₀ p₁ n₀ n₁ (Next q) x → stepped text q p₁ p₂ n₁ n₂ last (next (readWords x) (drop (q .at) text)) → stepped text r p₀ p₂ n₀ n₂ last (andThen x next)
+      at : (x : Reading) → ReadAs text r p₀ p₁ n₀ n₁ (Next q) x → ReadAs text q p₁ p₂ n₁ n₂ last (next (readWords x) (drop (q .at) text)) → ReadAs text r p₀ p₂ n₀ n₂ last (andThen x next)
       at (got ws bs rest n) a b = follows ws bs n last (next ws rest) (rw (a .left) at a) (rw (a .left) b)
       at (bad n) a b = absurd a
 
@@ -105,25 +105,25 @@ module _ (text : List ℕ) (r q : Progress) (p₀ p₁ p₂ : List ℕ) (n₀ n�
 -- what such a loop keeps before its reading i of count: the step of the first i, from r to q, in slices of the same lengths
 pub record Through (text : List ℕ) (read : List ℕ → Reading) (count : ℕ) (r : Progress) (p₀ : List ℕ) (n₀ : List Float)
     (q : Progress) (p₁ : List ℕ) (n₁ : List Float) (i : ℕ) : Type 0 where
-  pub so-far : stepped text r p₀ p₁ n₀ n₁ (Next q) (times i read (drop (r .at) text))
+  pub so-far : ReadAs text r p₀ p₁ n₀ n₁ (Next q) (times i read (drop (r .at) text))
   pub most : i ≤ count
   pub plan : length p₁ ≡ length p₀
   pub numbers : length n₁ ≡ length n₀
 
 module _ {text : List ℕ} {read : List ℕ → Reading} {count : ℕ} {r : Progress} {p₀ : List ℕ} {n₀ : List Float} where
   pub through-none : InText text r → Through text read count r p₀ n₀ r p₀ n₀ 0
-  unfolding stepped times
+  unfolding ReadAs times
   through-none h = record { so-far = moved-nothing text r (drop (r .at) text) p₀ n₀ h refl; most = omega arith; plan = refl; numbers = refl }
 
   module _ {q : Progress} {p₁ : List ℕ} {n₁ : List Float} {i : ℕ} (t : Through text read count r p₀ n₀ q p₁ n₁ i) where
     pub through-here : InText text r → InText text q
     through-here h = arrives text r p₀ p₁ n₀ n₁ (times i read (drop (r .at) text)) (Next q) (t .so-far) q h refl
 
-    pub through-all : count ≤ i → stepped text r p₀ p₁ n₀ n₁ (Next q) (times count read (drop (r .at) text))
+    pub through-all : count ≤ i → ReadAs text r p₀ p₁ n₀ n₁ (Next q) (times count read (drop (r .at) text))
     through-all k = let e : count ≡ i = omega arith in rw e (t .so-far)
 
-    module _ (less : i < count) (p₂ : List ℕ) (n₂ : List Float) (step : Step) (this : stepped text q p₁ p₂ n₁ n₂ step (read (drop (q .at) text))) where
-      next : stepped text r p₀ p₂ n₀ n₂ step (times (suc i) read (drop (r .at) text))
+    module _ (less : i < count) (p₂ : List ℕ) (n₂ : List Float) (step : Step) (this : ReadAs text q p₁ p₂ n₁ n₂ step (read (drop (q .at) text))) where
+      next : ReadAs text r p₀ p₂ n₀ n₂ step (times (suc i) read (drop (r .at) text))
       unfolding times
       next = goes text r q p₀ p₁ p₂ n₀ n₁ n₂ (times i read (drop (r .at) text)) (λ _. read) (Next q) step refl (t .so-far) this
 
@@ -131,11 +131,11 @@ module _ {text : List ℕ} {read : List ℕ → Reading} {count : ℕ} {r : Prog
       through-next e lp ln = record { so-far = rw (add-one, ← e) next; most = omega arith; plan = lp ∙ t .plan; numbers = ln ∙ t .numbers }
 
       -- a bad line among the first i + 1 readings is the bad line of all
-      pub through-stops : tagOf step-type step ≡ 1 → stepped text r p₀ p₂ n₀ n₂ step (times count read (drop (r .at) text))
+      pub through-stops : tagOf step-type step ≡ 1 → ReadAs text r p₀ p₂ n₀ n₂ step (times count read (drop (r .at) text))
       unfolding times
       through-stops b = let e : count ≡ suc i + (count - suc i) = omega arith in rw e (more (count - suc i))
         where
-          more : (k : ℕ) → stepped text r p₀ p₂ n₀ n₂ step (times (suc i + k) read (drop (r .at) text))
+          more : (k : ℕ) → ReadAs text r p₀ p₂ n₀ n₂ step (times (suc i + k) read (drop (r .at) text))
           more zero = rw add-zero next
           more (suc k) = rw add-suc (stops text r p₀ p₂ n₀ n₂ (times (suc i + k) read (drop (r .at) text)) step (more k) (λ _. read) b)
 

@@ -23,7 +23,7 @@ use Rattle.text.specs.declared.put.Step.the-variants.{Next, Malformed}
 use Rattle.lines.specs.Found.{lineFound}
 use Rattle.lines.specs.Reading.{maxFields}
 use Rattle.lines.proofs.Laws.{fields-few}
-use Rattle.text.specs.Steps.{InText, behindLine, withWord, withNumber, Room, LineValues, LineAt, Put, Stays, valued, stepped}
+use Rattle.text.specs.Steps.{InText, behindLine, withWord, withNumber, Room, LineValues, LineAt, Put, Stays, valued, ReadAs}
 use Rattle.lines.proofs.LineEnd.{the-type as end-type}
 use Rattle.text.proofs.Laws.{put-more, put-nothing, put-word, put-behind}
 
@@ -44,8 +44,8 @@ module _ (kind : LineKind) (text values : List ℕ) (r : Progress) (found : Line
       at (end.At n) t h = absurd (omega (arith, t))
       at end.Malformed t h = rw h
 
-  pub line-stops : (p₀ p₁ : List ℕ) (n₀ n₁ : List Float) → tagOf end-type found ≡ 1 → stepped text r p₀ p₁ n₀ n₁ (Malformed (r .line + 1)) (readLine kind (drop (r .at) text))
-  unfolding stepped
+  pub line-stops : (p₀ p₁ : List ℕ) (n₀ n₁ : List Float) → tagOf end-type found ≡ 1 → ReadAs text r p₀ p₁ n₀ n₁ (Malformed (r .line + 1)) (readLine kind (drop (r .at) text))
+  unfolding ReadAs
   line-stops p₀ p₁ n₀ n₁ t = rw (line-bad t)
 
 -- ---- values by their forms
@@ -188,8 +188,8 @@ module _ {kind : LineKind} {text values : List ℕ} {r : Progress} {at : ℕ} (l
 
   module _ {q : Progress} {p₀ p₁ : List ℕ} {n₀ n₁ : List Float} (still : Stays (behindLine r at) q)
       (put : Put (wordsIn (forms kind) values) (bitsIn (forms kind) values) (behindLine r at) q p₀ p₁ n₀ n₁) where
-    pub line-steps : stepped text r p₀ p₁ n₀ n₁ (Next q) (readLine kind (drop (r .at) text))
-    unfolding stepped
+    pub line-steps : ReadAs text r p₀ p₁ n₀ n₁ (Next q) (readLine kind (drop (r .at) text))
+    unfolding ReadAs
     line-steps =
         let bytes = line-bytes in
         rw line-read record {

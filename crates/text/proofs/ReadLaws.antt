@@ -20,7 +20,7 @@ use Rattle.text.specs.declared.put.Progress.{Progress}
 use Rattle.text.specs.declared.put.Step.{Step}
 use Rattle.text.specs.declared.put.Step.the-variants.{Next, Malformed}
 use Rattle.text.specs.Figures.{begin, readPoses, readMotion, Judged}
-use Rattle.text.specs.Steps.{InText, LineAt, stepped}
+use Rattle.text.specs.Steps.{InText, LineAt, ReadAs}
 use Rattle.text.proofs.Laws.{goes}
 use Rattle.text.proofs.LineLaws.{word-at, line-read, line-values}
 
@@ -41,10 +41,10 @@ module _ {text values : List ℕ} {at : ℕ} (l : LineAt Figure text values begi
   unfolding readWords forms
   count-in k h = rw (line-read l) (word-at (forms Figure) values tt k h)
 
-  module _ (q : Progress) (p₀ p₁ : List ℕ) (n₀ n₁ : List Float) (header : Step) (e : header ≡ Next q) (m : stepped text begin p₀ p₁ n₀ n₁ header (readLine Figure text)) where
+  module _ (q : Progress) (p₀ p₁ : List ℕ) (n₀ n₁ : List Float) (header : Step) (e : header ≡ Next q) (m : ReadAs text begin p₀ p₁ n₀ n₁ header (readLine Figure text)) where
     pub header-then : (p₂ : List ℕ) (n₂ : List Float) (step : Step)
-        → stepped text q p₁ p₂ n₁ n₂ step (andThen (times (getD values 0 0) (readLine Joint) (drop (q .at) text)) (λ _. readMotion (getD values 0 0) (getD values 1 0) (getD values 3 0)))
-        → stepped text begin p₀ p₂ n₀ n₂ step (readFigure text)
+        → ReadAs text q p₁ p₂ n₁ n₂ step (andThen (times (getD values 0 0) (readLine Joint) (drop (q .at) text)) (λ _. readMotion (getD values 0 0) (getD values 1 0) (getD values 3 0)))
+        → ReadAs text begin p₀ p₂ n₀ n₂ step (readFigure text)
     unfolding readFigure readMotion readPoses jointCount clipCount stateCount word
     header-then p₂ n₂ step b =
         goes text begin q p₀ p₁ p₂ n₀ n₁ n₂ (readLine Figure text) _ header step e m
@@ -53,11 +53,11 @@ module _ {text values : List ℕ} {at : ℕ} (l : LineAt Figure text values begi
 -- ---- the first pass, which judges
 
 pub judged : (text p₀ p₁ : List ℕ) (n₀ n₁ : List Float) (x : Reading) (step : Step) (q : Progress)
-    → stepped text begin p₀ p₁ n₀ n₁ step x → step ≡ Next q → Judged (q .words) (q .numbers) x
-unfolding stepped
-judged text p₀ p₁ n₀ n₁ x step q a e = of x (subst (λ (s : Step). stepped text begin p₀ p₁ n₀ n₁ s x) e a)
+    → ReadAs text begin p₀ p₁ n₀ n₁ step x → step ≡ Next q → Judged (q .words) (q .numbers) x
+unfolding ReadAs
+judged text p₀ p₁ n₀ n₁ x step q a e = of x (subst (λ (s : Step). ReadAs text begin p₀ p₁ n₀ n₁ s x) e a)
   where
-    of : (x : Reading) → stepped text begin p₀ p₁ n₀ n₁ (Next q) x → Judged (q .words) (q .numbers) x
+    of : (x : Reading) → ReadAs text begin p₀ p₁ n₀ n₁ (Next q) x → Judged (q .words) (q .numbers) x
     of (bad n) m = absurd m
     of (got ws bs rest n) m =
         record {
@@ -79,11 +79,11 @@ pub lent-nothing : {A : Type 0} (xs ys : List A) → length xs ≡ 0 → xs ++ y
 lent-nothing xs ys e = rw (empty xs e)
 
 pub refused-11 : (text P : List ℕ) (N : List Float) (p₀ p₁ : List ℕ) (n₀ n₁ : List Float) (step : Step) (line : ℕ)
-    → stepped text begin p₀ p₁ n₀ n₁ step (readFigure text) → step ≡ Malformed line → TextRead text P P N N (answer.Refused (refusal 11 line))
-unfolding stepped textValues textVerdict whenAccepted
-refused-11 text P N p₀ p₁ n₀ n₁ step line a e = of (readFigure text) refl (subst (λ (s : Step). stepped text begin p₀ p₁ n₀ n₁ s (readFigure text)) e a)
+    → ReadAs text begin p₀ p₁ n₀ n₁ step (readFigure text) → step ≡ Malformed line → TextRead text P P N N (answer.Refused (refusal 11 line))
+unfolding ReadAs textValues textVerdict whenAccepted
+refused-11 text P N p₀ p₁ n₀ n₁ step line a e = of (readFigure text) refl (subst (λ (s : Step). ReadAs text begin p₀ p₁ n₀ n₁ s (readFigure text)) e a)
   where
-    of : (x : Reading) → readFigure text ≡ x → stepped text begin p₀ p₁ n₀ n₁ (Malformed line) x → TextRead text P P N N (answer.Refused (refusal 11 line))
+    of : (x : Reading) → readFigure text ≡ x → ReadAs text begin p₀ p₁ n₀ n₁ (Malformed line) x → TextRead text P P N N (answer.Refused (refusal 11 line))
     of (got ws bs rest n) r m = absurd m
     of (bad n) r m = let l : line ≡ n = omega arith in record { answer = rw (r, l); plan = rw r; numbers = rw r }
 
@@ -106,11 +106,11 @@ module _ (text P : List ℕ) (N : List Float) (words count : ℕ) (j : Judged wo
   numbers-short h k = refused-12 (rw (le-leb words (length P) h, lt-leb count (length N) k))
 
   pub accepts : (P′ : List ℕ) (N′ : List Float) (step : Step) → words ≤ length P → count ≤ length N
-      → stepped text begin P P′ N N′ step (readFigure text) → TextRead text P P′ N N′ (answer.Accepted words count)
-  unfolding stepped textValues textVerdict whenAccepted overwritten readWords readFloats
+      → ReadAs text begin P P′ N N′ step (readFigure text) → TextRead text P P′ N N′ (answer.Accepted words count)
+  unfolding ReadAs textValues textVerdict whenAccepted overwritten readWords readFloats
   accepts P′ N′ step h k a = of step (rw (j .reading) at a)
     where
-      of : (step : Step) → stepped text begin P P′ N N′ step (got (j .plan) (j .bits) (j .rest) (j .lines)) → TextRead text P P′ N N′ (answer.Accepted words count)
+      of : (step : Step) → ReadAs text begin P P′ N N′ step (got (j .plan) (j .bits) (j .rest) (j .lines)) → TextRead text P P′ N N′ (answer.Accepted words count)
       of (Malformed line) m = absurd m
       of (Next q) m =
           let v : textVerdict (readFigure text) (length P) (length N) ≡ accepted words count =

@@ -9,7 +9,7 @@ use Rattle.model.specs.Plan.{maxSamples, total}
 use Rattle.model.specs.Text.{Reading, bad, got, andThen, times, readLine, readState, readEnd}
 use Rattle.text.specs.declared.put.Progress.{Progress}
 use Rattle.text.specs.declared.put.Step.{Step}
-use Rattle.text.specs.Steps.{stepped}
+use Rattle.text.specs.Steps.{ReadAs}
 
 -- nothing is read yet
 abbrev pub begin : Progress
@@ -17,7 +17,7 @@ begin = record { at = 0; line = 0; words = 0; numbers = 0 }
 
 -- a step that leaves all slices alone
 abbrev pub ended : List ℕ → Progress → Step → Reading → Type 0
-ended text r step read = (plan : List ℕ) → (numbers : List Float) → stepped text r plan plan numbers numbers step read
+ended text r step read = (plan : List ℕ) → (numbers : List Float) → ReadAs text r plan plan numbers numbers step read
 
 -- `count` clip lines have one word each, and m is their sum
 unfoldable pub sampled : ℕ → ℕ → Reading → Type 0

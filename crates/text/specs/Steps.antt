@@ -68,8 +68,8 @@ valued kind text values r (step.Next q) = LineAt kind text values r (q .at)
 valued kind text values r (step.Malformed m) = Unit {0}
 
 -- what a step makes of a reading. After a bad line the slices are not spoken of
-unfoldable pub stepped : List ℕ → Progress → List ℕ → List ℕ → List Float → List Float → Step → Reading → Type 0
-stepped text r planOld planNew numbersOld numbersNew (step.Next q) (got ws bs rest n) = Moved text ws bs rest n r q planOld planNew numbersOld numbersNew
-stepped text r planOld planNew numbersOld numbersNew (step.Next q) (bad n) = ⊥
-stepped text r planOld planNew numbersOld numbersNew (step.Malformed m) (got ws bs rest n) = ⊥
-stepped text r planOld planNew numbersOld numbersNew (step.Malformed m) (bad n) = m ≡ r .line + n
+unfoldable pub ReadAs : List ℕ → Progress → List ℕ → List ℕ → List Float → List Float → Step → Reading → Type 0
+ReadAs text r planOld planNew numbersOld numbersNew (step.Next q) (got ws bs rest n) = Moved text ws bs rest n r q planOld planNew numbersOld numbersNew
+ReadAs text r planOld planNew numbersOld numbersNew (step.Next q) (bad n) = ⊥
+ReadAs text r planOld planNew numbersOld numbersNew (step.Malformed m) (got ws bs rest n) = ⊥
+ReadAs text r planOld planNew numbersOld numbersNew (step.Malformed m) (bad n) = m ≡ r .line + n

@@ -15,7 +15,7 @@ ghost use lib.Seq.{sets};
 ghost use Rattle.model.specs.Text.{maxWord, forms, wordsIn, bitsIn, readLine, times, floatsOf};
 ghost use Rattle.model.specs.Laws.Text.{Bounded};
 ghost use Rattle.lines.specs.Reading.{maxFields};
-ghost use Rattle.text.specs.Steps.{InText, withWord, withNumber, behindLine, Room, Put, Stays, LineValues, valued, stepped};
+ghost use Rattle.text.specs.Steps.{InText, withWord, withNumber, behindLine, Room, Put, Stays, LineValues, valued, ReadAs};
 
 // The place in the text, and how many lines, words and numbers stand before it.
 pub struct Progress {
@@ -127,7 +127,7 @@ pub fn read_line(
     numbers: &mut [f32],
 ) -> Step
     requires { ⌜ InText (now text) from ⌝ }
-    ensures { λ r. ⌜ stepped (now (text .entry)) from (now (plan .entry)) (now (plan .exit)) (now (numbers .entry)) (now (numbers .exit)) r (readLine kind (drop (from .at) (now (text .entry)))) ⌝ }
+    ensures { λ r. ⌜ ReadAs (now (text .entry)) from (now (plan .entry)) (now (plan .exit)) (now (numbers .entry)) (now (numbers .exit)) r (readLine kind (drop (from .at) (now (text .entry)))) ⌝ }
     ensures { λ r. ⌜ valued kind (now (text .entry)) (now (values .exit)) from r ⌝ }
 {
     let found = line_at(text, from.at, kind, values);
@@ -149,7 +149,7 @@ pub fn read_lines(
     numbers: &mut [f32],
 ) -> Step
     requires { ⌜ InText (now text) from ⌝ }
-    ensures { λ r. ⌜ stepped (now (text .entry)) from (now (plan .entry)) (now (plan .exit)) (now (numbers .entry)) (now (numbers .exit)) r (times count (readLine kind) (drop (from .at) (now (text .entry)))) ⌝ }
+    ensures { λ r. ⌜ ReadAs (now (text .entry)) from (now (plan .entry)) (now (plan .exit)) (now (numbers .entry)) (now (numbers .exit)) r (times count (readLine kind) (drop (from .at) (now (text .entry)))) ⌝ }
 {
     let mut values = [0usize; MAX_FIELDS];
     let mut progress = from;

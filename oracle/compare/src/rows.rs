@@ -1,4 +1,4 @@
-//! Rows put to the program `vectors` and to the Rust.
+//! Rows put to the program `recorded_functions` and to the Rust.
 
 use crate::generator::Generator;
 use crate::program::{mismatches, Subject};

@@ -1,6 +1,6 @@
 //! The static library's functions, declared here once more from its description.
 
-use crate::evaluator::{Answer, Evaluator, FlatPlayer, Shown, TextAnswer};
+use crate::evaluator::{Answer, Evaluator, HostPlayer, Shown, TextAnswer};
 
 extern "C" {
     fn gentianlathe_start(
@@ -8,17 +8,17 @@ extern "C" {
         plan_length: usize,
         numbers: *const f32,
         numbers_length: usize,
-        player: *mut FlatPlayer,
+        player: *mut HostPlayer,
     ) -> Answer;
-    fn gentianlathe_update(player: *mut FlatPlayer, delta: f64);
-    fn gentianlathe_speed(player: *mut FlatPlayer, speed: f64);
-    fn gentianlathe_set(player: *mut FlatPlayer, parameter: usize, value: f32) -> Answer;
+    fn gentianlathe_update(player: *mut HostPlayer, delta: f64);
+    fn gentianlathe_speed(player: *mut HostPlayer, speed: f64);
+    fn gentianlathe_set(player: *mut HostPlayer, parameter: usize, value: f32) -> Answer;
     fn gentianlathe_frame(
         plan: *const u16,
         plan_length: usize,
         numbers: *const f32,
         numbers_length: usize,
-        player: *mut FlatPlayer,
+        player: *mut HostPlayer,
         ext: f64,
         output: *mut f32,
         output_length: usize,
@@ -28,7 +28,7 @@ extern "C" {
         plan_length: usize,
         numbers: *const f32,
         numbers_length: usize,
-        player: *mut FlatPlayer,
+        player: *mut HostPlayer,
         ext: f64,
         output: *mut f32,
         output_length: usize,
@@ -52,20 +52,20 @@ pub struct Library;
 
 // Each pointer below is a reference's, or a slice's with its own length. The library keeps none.
 impl Evaluator for Library {
-    fn start(&self, plan: &[u16], numbers: &[f32], player: &mut FlatPlayer) -> Answer {
+    fn start(&self, plan: &[u16], numbers: &[f32], player: &mut HostPlayer) -> Answer {
         let (words, floats) = (plan.len(), numbers.len());
         unsafe { gentianlathe_start(plan.as_ptr(), words, numbers.as_ptr(), floats, player) }
     }
 
-    fn update(&self, player: &mut FlatPlayer, delta: f64) {
+    fn update(&self, player: &mut HostPlayer, delta: f64) {
         unsafe { gentianlathe_update(player, delta) }
     }
 
-    fn speed(&self, player: &mut FlatPlayer, speed: f64) {
+    fn speed(&self, player: &mut HostPlayer, speed: f64) {
         unsafe { gentianlathe_speed(player, speed) }
     }
 
-    fn set(&self, player: &mut FlatPlayer, parameter: usize, value: f32) -> Answer {
+    fn set(&self, player: &mut HostPlayer, parameter: usize, value: f32) -> Answer {
         unsafe { gentianlathe_set(player, parameter, value) }
     }
 
@@ -74,7 +74,7 @@ impl Evaluator for Library {
         shown: Shown,
         plan: &[u16],
         numbers: &[f32],
-        player: &mut FlatPlayer,
+        player: &mut HostPlayer,
         ext: f64,
         output: &mut [f32],
     ) -> Answer {

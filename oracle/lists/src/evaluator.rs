@@ -7,7 +7,7 @@ use std::fmt;
 /// A player in a host's memory. Where `running` is 0, the next three fields mean nothing.
 #[repr(C)]
 #[derive(Clone, Copy, Debug)]
-pub struct FlatPlayer {
+pub struct HostPlayer {
     pub clock: f64,
     pub speed: f64,
     pub state: usize,
@@ -45,16 +45,16 @@ pub enum Shown {
 
 /// The library, or in a self-test one with a fault.
 pub trait Evaluator {
-    fn start(&self, plan: &[u16], numbers: &[f32], player: &mut FlatPlayer) -> Answer;
-    fn update(&self, player: &mut FlatPlayer, delta: f64);
-    fn speed(&self, player: &mut FlatPlayer, speed: f64);
-    fn set(&self, player: &mut FlatPlayer, parameter: usize, value: f32) -> Answer;
+    fn start(&self, plan: &[u16], numbers: &[f32], player: &mut HostPlayer) -> Answer;
+    fn update(&self, player: &mut HostPlayer, delta: f64);
+    fn speed(&self, player: &mut HostPlayer, speed: f64);
+    fn set(&self, player: &mut HostPlayer, parameter: usize, value: f32) -> Answer;
     fn frame(
         &self,
         shown: Shown,
         plan: &[u16],
         numbers: &[f32],
-        player: &mut FlatPlayer,
+        player: &mut HostPlayer,
         ext: f64,
         output: &mut [f32],
     ) -> Answer;
@@ -108,9 +108,9 @@ impl fmt::Debug for TextAnswer {
     }
 }
 
-impl FlatPlayer {
+impl HostPlayer {
     /// No player that a call leaves: a start has to overwrite all of it.
-    pub const UNUSED: FlatPlayer = FlatPlayer {
+    pub const UNUSED: HostPlayer = HostPlayer {
         clock: -7.0,
         speed: -7.0,
         state: 77,

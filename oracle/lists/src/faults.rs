@@ -1,6 +1,6 @@
 //! The library with a fault put in on the way.
 
-use crate::evaluator::{Answer, Evaluator, FlatPlayer, Shown, TextAnswer};
+use crate::evaluator::{Answer, Evaluator, HostPlayer, Shown, TextAnswer};
 
 #[derive(Clone, Copy, Debug, PartialEq, Eq)]
 pub enum Fault {
@@ -75,7 +75,7 @@ impl Faulty<'_> {
     }
 
     /// What the fault does to an accepted frame's player.
-    fn spoil_player(&self, before: &FlatPlayer, player: &mut FlatPlayer) {
+    fn spoil_player(&self, before: &HostPlayer, player: &mut HostPlayer) {
         let begins = before.running == 0 && player.running != 0;
         match self.fault {
             Fault::StateKept => player.state = before.state,
@@ -115,7 +115,7 @@ fn flipped(x: f32) -> f32 {
 }
 
 impl Evaluator for Faulty<'_> {
-    fn start(&self, plan: &[u16], numbers: &[f32], player: &mut FlatPlayer) -> Answer {
+    fn start(&self, plan: &[u16], numbers: &[f32], player: &mut HostPlayer) -> Answer {
         let before = *player;
         let mut answer = self.library.start(plan, numbers, player);
         if !answer.is_accepted() && self.has(Fault::StartPlace) {
@@ -132,7 +132,7 @@ impl Evaluator for Faulty<'_> {
         answer
     }
 
-    fn update(&self, player: &mut FlatPlayer, delta: f64) {
+    fn update(&self, player: &mut HostPlayer, delta: f64) {
         let clock = player.clock;
         self.library.update(player, delta);
         if self.has(Fault::ClockWithoutSpeed) {
@@ -140,13 +140,13 @@ impl Evaluator for Faulty<'_> {
         }
     }
 
-    fn speed(&self, player: &mut FlatPlayer, speed: f64) {
+    fn speed(&self, player: &mut HostPlayer, speed: f64) {
         if !self.has(Fault::SpeedLost) {
             self.library.speed(player, speed);
         }
     }
 
-    fn set(&self, player: &mut FlatPlayer, parameter: usize, value: f32) -> Answer {
+    fn set(&self, player: &mut HostPlayer, parameter: usize, value: f32) -> Answer {
         let before = *player;
         match self.fault {
             Fault::NeighbourSet => self.library.set(player, parameter ^ 1, value),
@@ -165,7 +165,7 @@ impl Evaluator for Faulty<'_> {
         shown: Shown,
         plan: &[u16],
         numbers: &[f32],
-        player: &mut FlatPlayer,
+        player: &mut HostPlayer,
         ext: f64,
         output: &mut [f32],
     ) -> Answer {

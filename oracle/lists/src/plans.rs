@@ -1,6 +1,6 @@
 //! Plans of all sorts with number counts of all sorts, put to the start.
 
-use crate::evaluator::{Answer, Evaluator, FlatPlayer};
+use crate::evaluator::{Answer, Evaluator, HostPlayer};
 use crate::run::{difference, floats, same, Counts};
 use compare::generator::Generator;
 use compare::reference::Reference;
@@ -81,7 +81,7 @@ pub fn same_start(
     evaluator: &dyn Evaluator,
     counts: &mut Counts,
 ) -> Result<(), String> {
-    let mut player = FlatPlayer::UNUSED;
+    let mut player = HostPlayer::UNUSED;
     let answer = evaluator.start(&figure.plan, &floats(figure), &mut player);
     let reference = Reference::start(figure);
     let expected = Answer::of(reference.answer());

@@ -1,6 +1,6 @@
 //! Random figures with random steps, random plans and random texts.
 
-use crate::evaluator::{Evaluator, FlatPlayer};
+use crate::evaluator::{Evaluator, HostPlayer};
 use crate::plans::{self, random_plan, same_start};
 use crate::run::{run, run_steps, same, Case, Counts, Mismatch};
 use crate::shrink::shrunk;
@@ -63,7 +63,7 @@ pub fn compare(evaluator: &dyn Evaluator, amounts: Amounts, seed: u64) -> (Found
     let mut counts = [(); 3].map(|_| Counts::default());
     let size = same(
         "the size of a player",
-        &std::mem::size_of::<FlatPlayer>(),
+        &std::mem::size_of::<HostPlayer>(),
         &evaluator.player_size(),
     );
     if let Err(what) = size {

@@ -1,6 +1,6 @@
 //! A figure with steps, put to the evaluator and to the reference side by side.
 
-use crate::evaluator::{Answer, Evaluator, FlatPlayer, Shown};
+use crate::evaluator::{Answer, Evaluator, HostPlayer, Shown};
 use crate::output::Output;
 use crate::step::{Edit, Step};
 use compare::lists::call::Call;
@@ -65,7 +65,7 @@ struct Run<'a> {
     evaluator: &'a dyn Evaluator,
     figure: &'a Figure,
     numbers: Vec<f32>,
-    player: FlatPlayer,
+    player: HostPlayer,
     reference: Reference,
     counts: &'a mut Counts,
 }
@@ -84,7 +84,7 @@ impl<'a> Run<'a> {
         counts: &'a mut Counts,
     ) -> (Run<'a>, Result<(), String>) {
         let numbers = floats(figure);
-        let mut player = FlatPlayer::UNUSED;
+        let mut player = HostPlayer::UNUSED;
         let answer = evaluator.start(&figure.plan, &numbers, &mut player);
         let reference = Reference::start(figure);
         let expected = Answer::of(reference.answer());

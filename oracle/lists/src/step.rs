@@ -1,6 +1,6 @@
 //! What a host does with its player: calls, and stores into the player's own fields.
 
-use crate::evaluator::FlatPlayer;
+use crate::evaluator::HostPlayer;
 use compare::generator::{Generator, SPECIAL};
 use compare::lists::call::Call;
 use compare::lists::random_calls::{call, double, value, Calls};
@@ -29,7 +29,7 @@ pub enum Edit {
 }
 
 impl Edit {
-    pub fn store(self, player: &mut FlatPlayer) {
+    pub fn store(self, player: &mut HostPlayer) {
         match self {
             Edit::Clock(bits) => player.clock = f64::from_bits(bits),
             Edit::Speed(bits) => player.speed = f64::from_bits(bits),

@@ -1,4 +1,4 @@
--- `capi::frame_in_place` meets its contract: a walk of its MIR, by hand. The borrow of the player is opened and its numbers are copied. The two arrays are lent where they lie for the call of `flat_frame`
+-- `capi::frame_in_place` meets its contract: a walk of its MIR, by hand. The borrow of the player is opened and its numbers are copied. The two arrays are lent where they lie for the call of `host_frame`
 -- and come back once it is over. The numbers that it returns are stored, and the borrow is closed. Assumes nothing.
 use mathlib.Core.Path.{_≡_, refl, ap}
 use Prim.Native.Nat.{ℕ, _+_}
@@ -46,25 +46,25 @@ use denote.Triple.Table.{entered, cited}
 use denote.Triple.Walked.{says, Stays, stay-ref, stay-dropped, gave-slice, walkOf, AllGo, goes-dropped, goes-gave-slice, goes-ref, ends-at, walked, walk-meets}
 use denote.Triple.Clauses.{lasts}
 use denote.Exit.{yes}
-use Rattle.flat.specs.FlatPromises.{FlatFramed}
+use Rattle.host_player.specs.HostPromises.{HostFramed}
 use Rattle.model.specs.declared.FrameKind.{FrameKind}
-use Rattle.flat.specs.FlatParts.{flatOf}
-use Rattle.flat.specs.declared.FlatPlayer.{FlatPlayer}
-use Rattle.flat.specs.declared.FlatFrame.{FlatFrame}
+use Rattle.host_player.specs.HostParts.{hostOf}
+use Rattle.host_player.specs.declared.HostPlayer.{HostPlayer}
+use Rattle.host_player.specs.declared.HostFrame.{HostFrame}
 use Rattle.model.proofs.FrameKind as E
 use Rattle.model.proofs.FrameKind.Laws as E′
-use Rattle.flat.proofs.FlatPlayer as T
-use Rattle.flat.proofs.FlatPlayer.Laws as T′
-use Rattle.flat.proofs.FlatParts as P
-use Rattle.flat.proofs.FlatParts.Laws as P′
-use Rattle.flat.proofs.FlatFrame as R
-use Rattle.flat.proofs.FlatFrame.Laws as R′
-use Rattle.flat.proofs.FlatAnswer as N
-use Rattle.flat.proofs.FlatAnswer.Laws as N′
-use Rattle.flat.proofs.flat_frame as core
-use Rattle.flat.proofs.flat_frame.Symbol as core-def
-use Rattle.flat.proofs.flat_frame.Symbol.{name as #core}
-use Rattle.flat.proofs.flat_frame.Met as core-thm
+use Rattle.host_player.proofs.HostPlayer as T
+use Rattle.host_player.proofs.HostPlayer.Laws as T′
+use Rattle.host_player.proofs.HostParts as P
+use Rattle.host_player.proofs.HostParts.Laws as P′
+use Rattle.host_player.proofs.HostFrame as R
+use Rattle.host_player.proofs.HostFrame.Laws as R′
+use Rattle.host_player.proofs.HostAnswer as N
+use Rattle.host_player.proofs.HostAnswer.Laws as N′
+use Rattle.host_player.proofs.host_frame as core
+use Rattle.host_player.proofs.host_frame.Symbol as core-def
+use Rattle.host_player.proofs.host_frame.Symbol.{name as #core}
+use Rattle.host_player.proofs.host_frame.Met as core-thm
 use Rattle.capi.proofs.Lent.{shut, opened}
 use Rattle.capi.proofs.Arrays.{parametersAt, instancesAt, Parameters, Instances, partsOf, withInstances, parameters, instances, Loans, Lent, lends, comes-back}
 use Rattle.capi.proofs.frame_in_place.Key.{name as #frame-in-place}
@@ -86,8 +86,8 @@ stayed = (
 )
 
 -- the player with the numbers and the instances that the callee left
-abbrev stored : FlatPlayer → FlatFrame → List Float → FlatPlayer
-stored h r is = flatOf (r .parts) (h .parameters) is
+abbrev stored : HostPlayer → HostFrame → List Float → HostPlayer
+stored h r is = hostOf (r .parts) (h .parameters) is
 
 module _ {M : Type 1} (𝓤 : URA M) (H : Heap 𝓤) (A : Atoms 𝓤) (at-mem : Memory → SProp 𝓤) (run : Routine → Fun 𝓤) where
   -- the contract that the proof cites
@@ -96,14 +96,14 @@ module _ {M : Type 1} (𝓤 : URA M) (H : Heap 𝓤) (A : Atoms 𝓤) (at-mem : 
 
 -- a call: its lifetimes and shares, and its parameters
 module _ {M : Type 1} (𝓤 : URA M) (H : Heap 𝓤) (A : Atoms 𝓤) (W : Given 𝓤 H A) (at-mem : Memory → SProp 𝓤) (run : Routine → Fun 𝓤) (κ₀ κ₁ κ₂ κ₃ : Lft) (q₀ q₁ q₂ q₃ : Share)
-    (kind : FrameKind) (is-kind : Is E.the-row kind (EL.vals E.the-type E′.the-laws kind)) (s : RefT (List ℕ)) (n : RefT (List Float)) (b o : ℕ) (γ : GName) (h : FlatPlayer) (d : Float) (b₃ o₃ : ℕ) (γ₃ : GName) (ys : List Float) where
+    (kind : FrameKind) (is-kind : Is E.the-row kind (EL.vals E.the-type E′.the-laws kind)) (s : RefT (List ℕ)) (n : RefT (List Float)) (b o : ℕ) (γ : GName) (h : HostPlayer) (d : Float) (b₃ o₃ : ℕ) (γ₃ : GName) (ys : List Float) where
   abbrev κs : Lfts 4
   κs = (κ₀, (κ₁, (κ₂, (κ₃, tt))))
 
   abbrev out : RefT (List Float)
   out = record { ptr = (b₃, o₃); name = γ₃; now = ys }
 
-  abbrev x : FrameKind × (RefT (List ℕ) × (RefT (List Float) × (RefT FlatPlayer × (Float × (RefT (List Float) × Unit {0})))))
+  abbrev x : FrameKind × (RefT (List ℕ) × (RefT (List Float) × (RefT HostPlayer × (Float × (RefT (List Float) × Unit {0})))))
   x = (kind, (s, (n, (record { ptr = (b, o); name = γ; now = h }, (d, (out, tt))))))
 
   -- the machine values of the kind and of the slices
@@ -132,15 +132,15 @@ module _ {M : Type 1} (𝓤 : URA M) (H : Heap 𝓤) (A : Atoms 𝓤) (W : Given
   Post = walkOf 𝓤 H A f.ended stayed (f.clauses 𝓤 H A at-mem run) .post Ghosts
 
   -- what the callee says of its result and of the last lists
-  abbrev Said : FlatFrame → List Float → List Float → Type 0
-  Said r is zs = FlatFramed kind (s .now) (n .now) h d ys zs (stored h r is) (r .answer)
+  abbrev Said : HostFrame → List Float → List Float → Type 0
+  Said r is zs = HostFramed kind (s .now) (n .now) h d ys zs (stored h r is) (r .answer)
 
-  abbrev Left : FlatFrame → List Float → List Float → List (Item 𝓤)
+  abbrev Left : HostFrame → List Float → List Float → List (Item 𝓤)
   Left r is zs =
       ‵ (fobs γ (T.the-row .coded .code (stored h r is))) ∷ ‵ (fbor κ₂ (Body (mem T.the-row) b o γ)) ∷
       ‵ (flft κ₂ q₂) ∷ ‵ (flft κ₀ q₀) ∷ ‵ (flft κ₁ q₁) ∷ ‵ (flft κ₃ q₃) ∷ ‵ (finally f32 γ₃ zs) ∷ []
 
-  exits : (r : FlatFrame) (is zs : List Float) (v : Val) → Said r is zs → length zs ≡ length ys → Is N.the-row (r .answer) (v ∷ []) → ent 𝓤 (⋆ 𝓤 H A (Left r is zs)) (Post v)
+  exits : (r : HostFrame) (is zs : List Float) (v : Val) → Said r is zs → length zs ≡ length ys → Is N.the-row (r .answer) (v ∷ []) → ent 𝓤 (⋆ 𝓤 H A (Left r is zs)) (Post v)
   exits r is zs v said l is-v =
       qed W (Left r is zs) ∵
       suffices ! _ (ends-at 𝓤 H A f.ended stayed (f.clauses 𝓤 H A at-mem run) W Ghosts v (r .answer) (tt, (tt, (tt, (stored h r is, (tt, (zs, tt)))))) (tt, (tt, (tt, (tt, (tt, (l, tt))))))) $ says ! said $
@@ -190,10 +190,10 @@ module _ {M : Type 1} (𝓤 : URA M) (H : Heap 𝓤) (A : Atoms 𝓤) (W : Given
     abbrev Lasts : Type 0
     Lasts = Same (Same (Same (Same (Same (List Float × Same (List Float × Unit {0}))))))
 
-    abbrev Ensured : Names → FlatFrame → Item 𝓤
+    abbrev Ensured : Names → HostFrame → Item 𝓤
     Ensured γs r = some (λ (ws : Lasts). ‵ (lasts core.ended (to-core γs .0 .0) (to-core γs .0 .3) ws) ⊛ raw (fact 𝓤 (Said r (ws .1 .1 .1 .1 .1 .0) (ws .1 .1 .1 .1 .1 .1 .1 .0))))
 
-    abbrev Returned : Names → Val → FlatFrame → Item 𝓤
+    abbrev Returned : Names → Val → HostFrame → Item 𝓤
     Returned γs v r = (Tokens ⊛ ‵ (R.the-row .own r (v ∷ []))) ⊛ Ensured γs r
 
     ensured-is : (γs : Names) (v : Val) → ent 𝓤 (Core 𝓤 H A at-mem run .post (to-core γs) v) (mean 𝓤 H A (later (some (Returned γs v))))
@@ -331,4 +331,4 @@ frame-in-place-spec 𝓤 H 𝓜 𝓖 𝓡 =
     entered 𝓤 H (tripleOf 𝓤 H (𝓖 .A) f.signature (f.spec 𝓤 H (𝓖 .A) (𝓜 .mem) (𝓡 .run)))
     (tables 𝓤 H 𝓜 𝓡 code.env .C) (tables 𝓤 H 𝓜 𝓡 code.env .Λ) #frame-in-place code.function (code.unfolded 𝓤 H 𝓜 𝓡)
     (meets 𝓤 H (𝓖 .A) (givenOf 𝓤 H 𝓜 𝓖) (𝓜 .mem) (𝓡 .run) (tablesOf 𝓤 H 𝓜 (tables 𝓤 H 𝓜 𝓡 code.env))
-    (cited 𝓤 H (Core 𝓤 H (𝓖 .A) (𝓜 .mem) (𝓡 .run)) 𝓜 𝓡 code.env #core core-def.routine code.calls-flat·flat-frame (core-thm.met 𝓤 H 𝓜 𝓖 𝓡)))
+    (cited 𝓤 H (Core 𝓤 H (𝓖 .A) (𝓜 .mem) (𝓡 .run)) 𝓜 𝓡 code.env #core core-def.routine code.calls-host-player·host-frame (core-thm.met 𝓤 H 𝓜 𝓖 𝓡)))

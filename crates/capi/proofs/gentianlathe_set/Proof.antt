@@ -42,19 +42,19 @@ use denote.Triple.Table.{entered, cited}
 use denote.Triple.Walked.{says, Stays, stay-ref, stay-dropped, walkOf, goes-dropped, goes-ref, ends-at, walked, walk-meets}
 use denote.Triple.Clauses.{ensured, lasts}
 use denote.Exit.{yes}
-use Rattle.flat.specs.FlatPromises.{FlatParameterSet}
-use Rattle.flat.specs.declared.FlatPlayer.{FlatPlayer}
-use Rattle.flat.specs.declared.FlatOutcome.{FlatOutcome}
-use Rattle.flat.proofs.FlatPlayer as T
-use Rattle.flat.proofs.FlatPlayer.Laws as T′
-use Rattle.flat.proofs.FlatOutcome as R
-use Rattle.flat.proofs.FlatOutcome.Laws as R′
-use Rattle.flat.proofs.FlatAnswer as N
-use Rattle.flat.proofs.FlatAnswer.Laws as N′
-use Rattle.flat.proofs.parameter_set as callee
-use Rattle.flat.proofs.parameter_set.Symbol as callee-def
-use Rattle.flat.proofs.parameter_set.Symbol.{name as #callee}
-use Rattle.flat.proofs.parameter_set.Met as callee-thm
+use Rattle.host_player.specs.HostPromises.{HostParameterSet}
+use Rattle.host_player.specs.declared.HostPlayer.{HostPlayer}
+use Rattle.host_player.specs.declared.HostOutcome.{HostOutcome}
+use Rattle.host_player.proofs.HostPlayer as T
+use Rattle.host_player.proofs.HostPlayer.Laws as T′
+use Rattle.host_player.proofs.HostOutcome as R
+use Rattle.host_player.proofs.HostOutcome.Laws as R′
+use Rattle.host_player.proofs.HostAnswer as N
+use Rattle.host_player.proofs.HostAnswer.Laws as N′
+use Rattle.host_player.proofs.parameter_set as callee
+use Rattle.host_player.proofs.parameter_set.Symbol as callee-def
+use Rattle.host_player.proofs.parameter_set.Symbol.{name as #callee}
+use Rattle.host_player.proofs.parameter_set.Met as callee-thm
 use Rattle.capi.proofs.gentianlathe_set.Key.{name}
 use Rattle.capi.proofs.gentianlathe_set as f
 use Rattle.capi.proofs.gentianlathe_set.Statement as stated
@@ -69,8 +69,8 @@ module _ {M : Type 1} (𝓤 : URA M) (H : Heap 𝓤) (A : Atoms 𝓤) (at-mem : 
 
 module _ {M : Type 1} (𝓤 : URA M) (H : Heap 𝓤) (A : Atoms 𝓤) (W : Given 𝓤 H A) (at-mem : Memory → SProp 𝓤) (run : Routine → Fun 𝓤) where
   -- the reference's place and name, the player behind it, and the two numbers
-  module _ (κ : Lft) (q : Share) (b o : ℕ) (γ : GName) (p : FlatPlayer) (n : ℕ) (d : Float) where
-    abbrev x : RefT FlatPlayer × (ℕ × (Float × Unit {0}))
+  module _ (κ : Lft) (q : Share) (b o : ℕ) (γ : GName) (p : HostPlayer) (n : ℕ) (d : Float) where
+    abbrev x : RefT HostPlayer × (ℕ × (Float × Unit {0}))
     x = (record { ptr = (b, o); name = γ; now = p }, (n, (d, tt)))
 
     abbrev vs : List Val × (List Val × (List Val × Unit {0}))
@@ -82,13 +82,13 @@ module _ {M : Type 1} (𝓤 : URA M) (H : Heap 𝓤) (A : Atoms 𝓤) (W : Given
     abbrev Post : Val → SProp 𝓤
     Post = walkOf 𝓤 H A f.ended stayed (f.clauses 𝓤 H A at-mem run) .post ghosts
 
-    abbrev Said : FlatOutcome → Type 0
-    Said r = FlatParameterSet p n d (r .player) (r .answer)
+    abbrev Said : HostOutcome → Type 0
+    Said r = HostParameterSet p n d (r .player) (r .answer)
 
-    abbrev Left : FlatOutcome → List (Item 𝓤)
+    abbrev Left : HostOutcome → List (Item 𝓤)
     Left r = ‵ (fobs γ (T.the-row .coded .code (r .player))) ∷ ‵ (fbor κ (Body (mem T.the-row) b o γ)) ∷ ‵ (flft κ q) ∷ []
 
-    exits : (r : FlatOutcome) (v : Val) → Said r → Is N.the-row (r .answer) (v ∷ []) → ent 𝓤 (⋆ 𝓤 H A (Left r)) (Post v)
+    exits : (r : HostOutcome) (v : Val) → Said r → Is N.the-row (r .answer) (v ∷ []) → ent 𝓤 (⋆ 𝓤 H A (Left r)) (Post v)
     exits r v e is-v =
         qed W (Left r) ∵
         suffices ! _ (ends-at 𝓤 H A f.ended stayed (f.clauses 𝓤 H A at-mem run) W ghosts v (r .answer) (r .player, (tt, (tt, tt))) (tt, (tt, (tt, tt)))) $ says ! e $
@@ -100,7 +100,7 @@ module _ {M : Type 1} (𝓤 : URA M) (H : Heap 𝓤) (A : Atoms 𝓤) (W : Given
     abbrev pvs : List Val
     pvs = LL.vals T.the-type T′.the-laws p
 
-    abbrev given : FlatPlayer × (ℕ × (Float × Unit {0}))
+    abbrev given : HostPlayer × (ℕ × (Float × Unit {0}))
     given = (p, (n, (d, tt)))
 
     abbrev passed : Vals callee.signature tt
@@ -115,10 +115,10 @@ module _ {M : Type 1} (𝓤 : URA M) (H : Heap 𝓤) (A : Atoms 𝓤) (W : Given
     asked : ent 𝓤 (⋆ 𝓤 H A (‵ ftrue ∷ ‵ Passed ∷ [])) (Callee 𝓤 H A at-mem run .pre to)
     asked = qed W (‵ ftrue ∷ ‵ Passed ∷ []) ∵ join ! $ frame ! $ done !
 
-    abbrev Ensured : FlatOutcome → SProp 𝓤
+    abbrev Ensured : HostOutcome → SProp 𝓤
     Ensured = ensured 𝓤 H A callee.ended (callee.clauses 𝓤 H A at-mem run) tt given tt
 
-    said : (r : FlatOutcome) → ent 𝓤 (Ensured r) (fact 𝓤 (Said r))
+    said : (r : HostOutcome) → ent 𝓤 (Ensured r) (fact 𝓤 (Said r))
     said r = exE 𝓤 _ (λ ws. snd∗ 𝓤 (sem 𝓤 H A (lasts callee.ended tt given ws)) (fact 𝓤 (Said r)))
 
     module _ (C : Calls 𝓤 H) (Λ : Loops 𝓤 H) (fm : FmC 𝓤 H (W .laws) C) (known : Triple 𝓤 (C #callee) (Callee 𝓤 H A at-mem run)) where
@@ -143,7 +143,7 @@ module _ {M : Type 1} (𝓤 : URA M) (H : Heap 𝓤) (A : Atoms 𝓤) (W : Given
           -- [what the call asks; the player's cell; the open borrow; obs; auth; _5; …]
           calls-at ! fm (Callee 𝓤 H A at-mem run) known to
           (and-then ! (load ! (from ! (stop !)) (look ! 5 refl)) (and-then ! (load ! (from ! (stop !)) (look ! 11 refl)) (and-then ! (load ! (from ! (stop !)) (look ! 9 refl)) (no-more !)))) (λ v.
-          use1 W (later (some (λ (r : FlatOutcome). (‵ ftrue ⊛ ‵ (R.the-row .own r (v ∷ []))) ⊛ raw (Ensured r)))) (id⊢ 𝓤 _) $ await ! tt $ pick ! (λ r.
+          use1 W (later (some (λ (r : HostOutcome). (‵ ftrue ⊛ ‵ (R.the-row .own r (v ∷ []))) ⊛ raw (Ensured r)))) (id⊢ 𝓤 _) $ await ! tt $ pick ! (λ r.
           split ! $ move ! (1 ∷ []) $ use1 W (raw (fact 𝓤 (Said r))) (said r) $ heard ! (Said r) (λ e. split ! $ drop ! $
           peeks ! R.the-row (Is R.the-row) (shows 𝓤 H A R.the-row) r (v ∷ []) (λ is-r.
           let gave = LL.owed R.the-type R′.the-laws r _ is-r in
@@ -179,4 +179,4 @@ gentianlathe-set-spec 𝓤 H 𝓜 𝓖 𝓡 =
     entered 𝓤 H (tripleOf 𝓤 H (𝓖 .A) f.signature (f.spec 𝓤 H (𝓖 .A) (𝓜 .mem) (𝓡 .run)))
     (tables 𝓤 H 𝓜 𝓡 code.env .C) (tables 𝓤 H 𝓜 𝓡 code.env .Λ) name code.function (code.unfolded 𝓤 H 𝓜 𝓡)
     (meets 𝓤 H (𝓖 .A) (givenOf 𝓤 H 𝓜 𝓖) (𝓜 .mem) (𝓡 .run) (tablesOf 𝓤 H 𝓜 (tables 𝓤 H 𝓜 𝓡 code.env))
-    (cited 𝓤 H (Callee 𝓤 H (𝓖 .A) (𝓜 .mem) (𝓡 .run)) 𝓜 𝓡 code.env #callee callee-def.routine code.calls-flat·parameter-set (callee-thm.met 𝓤 H 𝓜 𝓖 𝓡)))
+    (cited 𝓤 H (Callee 𝓤 H (𝓖 .A) (𝓜 .mem) (𝓡 .run)) 𝓜 𝓡 code.env #callee callee-def.routine code.calls-host-player·parameter-set (callee-thm.met 𝓤 H 𝓜 𝓖 𝓡)))

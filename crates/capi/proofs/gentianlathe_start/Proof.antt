@@ -42,19 +42,19 @@ use denote.Triple.Table.{entered, cited}
 use denote.Triple.Walked.{says, Stays, stay-ref, stay-dropped, walkOf, goes-dropped, goes-ref, ends-at, walked, walk-meets}
 use denote.Triple.Clauses.{ensured, lasts}
 use denote.Exit.{yes}
-use Rattle.flat.specs.FlatPromises.{FlatStarted}
-use Rattle.flat.specs.declared.FlatPlayer.{FlatPlayer}
-use Rattle.flat.specs.declared.FlatOutcome.{FlatOutcome}
-use Rattle.flat.proofs.FlatPlayer as T
-use Rattle.flat.proofs.FlatPlayer.Laws as T′
-use Rattle.flat.proofs.FlatOutcome as R
-use Rattle.flat.proofs.FlatOutcome.Laws as R′
-use Rattle.flat.proofs.FlatAnswer as N
-use Rattle.flat.proofs.FlatAnswer.Laws as N′
-use Rattle.flat.proofs.started as callee
-use Rattle.flat.proofs.started.Symbol as callee-def
-use Rattle.flat.proofs.started.Symbol.{name as #callee}
-use Rattle.flat.proofs.started.Met as callee-thm
+use Rattle.host_player.specs.HostPromises.{HostStarted}
+use Rattle.host_player.specs.declared.HostPlayer.{HostPlayer}
+use Rattle.host_player.specs.declared.HostOutcome.{HostOutcome}
+use Rattle.host_player.proofs.HostPlayer as T
+use Rattle.host_player.proofs.HostPlayer.Laws as T′
+use Rattle.host_player.proofs.HostOutcome as R
+use Rattle.host_player.proofs.HostOutcome.Laws as R′
+use Rattle.host_player.proofs.HostAnswer as N
+use Rattle.host_player.proofs.HostAnswer.Laws as N′
+use Rattle.host_player.proofs.started as callee
+use Rattle.host_player.proofs.started.Symbol as callee-def
+use Rattle.host_player.proofs.started.Symbol.{name as #callee}
+use Rattle.host_player.proofs.started.Met as callee-thm
 use Rattle.capi.proofs.gentianlathe_start.Key.{name}
 use Rattle.capi.proofs.gentianlathe_start as f
 use Rattle.capi.proofs.gentianlathe_start.Statement as stated
@@ -70,8 +70,8 @@ module _ {M : Type 1} (𝓤 : URA M) (H : Heap 𝓤) (A : Atoms 𝓤) (at-mem : 
 
 module _ {M : Type 1} (𝓤 : URA M) (H : Heap 𝓤) (A : Atoms 𝓤) (W : Given 𝓤 H A) (at-mem : Memory → SProp 𝓤) (run : Routine → Fun 𝓤) where
   -- the lifetimes and shares, the two slices, the reference's place and name, and the player behind it
-  module _ (κ₀ κ₁ κ₂ : Lft) (q₀ q₁ q₂ : Share) (s : RefT (List ℕ)) (n : RefT (List Float)) (b o : ℕ) (γ : GName) (p : FlatPlayer) where
-    abbrev x : RefT (List ℕ) × (RefT (List Float) × (RefT FlatPlayer × Unit {0}))
+  module _ (κ₀ κ₁ κ₂ : Lft) (q₀ q₁ q₂ : Share) (s : RefT (List ℕ)) (n : RefT (List Float)) (b o : ℕ) (γ : GName) (p : HostPlayer) where
+    abbrev x : RefT (List ℕ) × (RefT (List Float) × (RefT HostPlayer × Unit {0}))
     x = (s, (n, (record { ptr = (b, o); name = γ; now = p }, tt)))
 
     abbrev v₀ : Val
@@ -89,17 +89,17 @@ module _ {M : Type 1} (𝓤 : URA M) (H : Heap 𝓤) (A : Atoms 𝓤) (W : Given
     abbrev Post : Val → SProp 𝓤
     Post = walkOf 𝓤 H A f.ended stayed (f.clauses 𝓤 H A at-mem run) .post ghosts
 
-    abbrev Said : FlatOutcome → Type 0
-    Said r = FlatStarted (s .now) (n .now) (r .player) (r .answer)
+    abbrev Said : HostOutcome → Type 0
+    Said r = HostStarted (s .now) (n .now) (r .player) (r .answer)
 
     -- of the two slices' lifetimes
     abbrev Tokens : Item 𝓤
     Tokens = ‵ (flft κ₀ q₀) ⊛ ‵ (flft κ₁ q₁) ⊛ ‵ ftrue
 
-    abbrev Left : FlatOutcome → List (Item 𝓤)
+    abbrev Left : HostOutcome → List (Item 𝓤)
     Left r = ‵ (fobs γ (T.the-row .coded .code (r .player))) ∷ ‵ (fbor κ₂ (Body (mem T.the-row) b o γ)) ∷ ‵ (flft κ₂ q₂) ∷ Tokens ∷ []
 
-    exits : (r : FlatOutcome) (v : Val) → Said r → Is N.the-row (r .answer) (v ∷ []) → ent 𝓤 (⋆ 𝓤 H A (Left r)) (Post v)
+    exits : (r : HostOutcome) (v : Val) → Said r → Is N.the-row (r .answer) (v ∷ []) → ent 𝓤 (⋆ 𝓤 H A (Left r)) (Post v)
     exits r v e is-v =
         qed W (Left r) ∵
         suffices ! _ (ends-at 𝓤 H A f.ended stayed (f.clauses 𝓤 H A at-mem run) W ghosts v (r .answer) (tt, (tt, (r .player, tt))) (tt, (tt, (tt, tt)))) $ says ! e $
@@ -121,10 +121,10 @@ module _ {M : Type 1} (𝓤 : URA M) (H : Heap 𝓤) (A : Atoms 𝓤) (W : Given
     asked : ent 𝓤 (⋆ 𝓤 H A (Tokens ∷ ‵ Passed ∷ [])) (Callee 𝓤 H A at-mem run .pre to)
     asked = qed W (Tokens ∷ ‵ Passed ∷ []) ∵ join ! $ frame ! $ done !
 
-    abbrev Ensured : FlatOutcome → SProp 𝓤
+    abbrev Ensured : HostOutcome → SProp 𝓤
     Ensured = ensured 𝓤 H A callee.ended (callee.clauses 𝓤 H A at-mem run) (κ₀, (κ₁, tt)) given tt
 
-    said : (r : FlatOutcome) → ent 𝓤 (Ensured r) (fact 𝓤 (Said r))
+    said : (r : HostOutcome) → ent 𝓤 (Ensured r) (fact 𝓤 (Said r))
     said r = exE 𝓤 _ (λ ws. snd∗ 𝓤 (sem 𝓤 H A (lasts callee.ended (κ₀, (κ₁, tt)) given ws)) (fact 𝓤 (Said r)))
 
     module _ (C : Calls 𝓤 H) (Λ : Loops 𝓤 H) (fm : FmC 𝓤 H (W .laws) C) (known : Triple 𝓤 (C #callee) (Callee 𝓤 H A at-mem run)) where
@@ -149,7 +149,7 @@ module _ {M : Type 1} (𝓤 : URA M) (H : Heap 𝓤) (A : Atoms 𝓤) (W : Given
           -- [what the call asks; the player's cell; the open borrow; obs; auth; _4; …; _0; …]
           calls-at ! fm (Callee 𝓤 H A at-mem run) known to
           (and-then ! (load ! (from ! (stop !)) (look ! 11 refl)) (and-then ! (load ! (from ! (stop !)) (look ! 9 refl)) (no-more !))) (λ v.
-          use1 W (later (some (λ (r : FlatOutcome). (Tokens ⊛ ‵ (R.the-row .own r (v ∷ []))) ⊛ raw (Ensured r)))) (id⊢ 𝓤 _) $ await ! tt $ pick ! (λ r.
+          use1 W (later (some (λ (r : HostOutcome). (Tokens ⊛ ‵ (R.the-row .own r (v ∷ []))) ⊛ raw (Ensured r)))) (id⊢ 𝓤 _) $ await ! tt $ pick ! (λ r.
           split ! $ move ! (1 ∷ []) $ use1 W (raw (fact 𝓤 (Said r))) (said r) $ heard ! (Said r) (λ e. split ! $ move ! (1 ∷ []) $
           peeks ! R.the-row (Is R.the-row) (shows 𝓤 H A R.the-row) r (v ∷ []) (λ is-r.
           let gave = LL.owed R.the-type R′.the-laws r _ is-r in
@@ -191,4 +191,4 @@ gentianlathe-start-spec 𝓤 H 𝓜 𝓖 𝓡 =
     entered 𝓤 H (tripleOf 𝓤 H (𝓖 .A) f.signature (f.spec 𝓤 H (𝓖 .A) (𝓜 .mem) (𝓡 .run)))
     (tables 𝓤 H 𝓜 𝓡 code.env .C) (tables 𝓤 H 𝓜 𝓡 code.env .Λ) name code.function (code.unfolded 𝓤 H 𝓜 𝓡)
     (meets 𝓤 H (𝓖 .A) (givenOf 𝓤 H 𝓜 𝓖) (𝓜 .mem) (𝓡 .run) (tablesOf 𝓤 H 𝓜 (tables 𝓤 H 𝓜 𝓡 code.env))
-    (cited 𝓤 H (Callee 𝓤 H (𝓖 .A) (𝓜 .mem) (𝓡 .run)) 𝓜 𝓡 code.env #callee callee-def.routine code.calls-flat·started (callee-thm.met 𝓤 H 𝓜 𝓖 𝓡)))
+    (cited 𝓤 H (Callee 𝓤 H (𝓖 .A) (𝓜 .mem) (𝓡 .run)) 𝓜 𝓡 code.env #callee callee-def.routine code.calls-host-player·started (callee-thm.met 𝓤 H 𝓜 𝓖 𝓡)))

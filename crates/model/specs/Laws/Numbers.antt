@@ -4,7 +4,7 @@ use native.Mathlib.Omega.{arith}
 use mathlib.Core.Path.{_≡_, ap}
 use mathlib.Core.List.{List}
 use Rattle.model.specs.Plan.{clipCount, stateCount, jointCount, transitionCount, sampleCount, transitionsBefore, samplesBefore, posesAt, NumberName, Rate, Value, Duration, PoseFloat, numberAt, numbersLength}
-use Rattle.model.specs.Unseen.{InPlan}
+use Rattle.model.specs.Unseen.{HasNumber}
 use Rattle.model.specs.Laws.Totals.{total-below, same-row, same-place, same-quotient, same-remainder, row-below}
 
 module _ (plan : List ℕ) where
@@ -16,7 +16,7 @@ module _ (plan : List ℕ) where
   unfolding samplesBefore
   sample-below c n h e = total-below (sampleCount plan) (clipCount plan) c n h e
 
-  pub number-inside : (p : NumberName) → InPlan plan p → numberAt plan p < numbersLength plan
+  pub number-inside : (p : NumberName) → HasNumber plan p → numberAt plan p < numbersLength plan
   unfolding numberAt numbersLength posesAt
   number-inside (Rate c) h = omega arith
   number-inside (Value s t) h = omega (arith, transition-below s t (h .0) (h .1))
@@ -33,7 +33,7 @@ module _ (plan : List ℕ) where
   unfolding samplesBefore
   same-sample c n d m h k e = (same-row (sampleCount plan) c n d m h k e, same-place (sampleCount plan) c n d m h k e)
 
-  same-pose : (c n j k d m l i : ℕ) → InPlan plan (PoseFloat c n j k) → InPlan plan (PoseFloat d m l i)
+  same-pose : (c n j k d m l i : ℕ) → HasNumber plan (PoseFloat c n j k) → HasNumber plan (PoseFloat d m l i)
       → numberAt plan (PoseFloat c n j k) ≡ numberAt plan (PoseFloat d m l i) → PoseFloat c n j k ≡ PoseFloat d m l i
   unfolding numberAt posesAt
   same-pose c n j k d m l i h g e =
@@ -47,7 +47,7 @@ module _ (plan : List ℕ) where
       let clip : (c ≡ d) × (n ≡ m) = same-sample c n d m (h .1) (g .1) sample in
       rw (clip .0, clip .1, joint, float)
 
-  pub one-name : (p q : NumberName) → InPlan plan p → InPlan plan q → numberAt plan p ≡ numberAt plan q → p ≡ q
+  pub one-name : (p q : NumberName) → HasNumber plan p → HasNumber plan q → numberAt plan p ≡ numberAt plan q → p ≡ q
   unfolding numberAt posesAt
   one-name (Rate c) (Rate d) h g e = ap Rate e
   one-name (Rate c) (Value u v) h g e = absurd (omega arith)

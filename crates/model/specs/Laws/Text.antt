@@ -11,7 +11,7 @@ use Rattle.model.specs.declared.LineKind.{LineKind}
 use Rattle.model.specs.declared.LineKind.the-variants.{Figure, Joint, Clip, State, Node, Go, Pose}
 use Rattle.model.specs.declared.FieldForm.{FieldForm}
 use Rattle.model.specs.declared.FieldForm.the-variants.{Decimal, Bits}
-use Rattle.model.specs.Text.{front, comma, lineFeed, run, numeral, baseOf, isField, Field, none, field, fieldIn, maxWord, name, forms, fieldCount, formOf, Line, malformed, line, withField, fieldThen, fieldsIn, begins, lineIn, wordsIn, bitsIn}
+use Rattle.model.specs.Text.{front, comma, lineFeed, digitCount, numeral, baseOf, isField, Field, none, field, fieldIn, maxWord, name, forms, fieldCount, formOf, Line, malformed, line, withField, fieldThen, fieldsIn, begins, lineIn, wordsIn, bitsIn}
 use Rattle.model.specs.Laws.Tests.{and-left, and-right}
 use Rattle.model.specs.Laws.Digits.{run-length, numeral-small}
 
@@ -31,7 +31,7 @@ pub record FieldLaw (form : FieldForm) (s : List ℕ) (v : ℕ) (rest : List ℕ
   pub spent : leastBytes form + length rest ≤ length s
 
 -- the field of a run of k digits
-field-of-run : (form : FieldForm) (s : List ℕ) (k : ℕ) → k ≡ run (baseOf form) s → isField form k s ≡ true → FieldLaw form s (numeral (baseOf form) k s) (drop k s)
+field-of-run : (form : FieldForm) (s : List ℕ) (k : ℕ) → k ≡ digitCount (baseOf form) s → isField form k s ≡ true → FieldLaw form s (numeral (baseOf form) k s) (drop k s)
 unfolding isField
 field-of-run (Decimal limit) s k e ok =
     let h = run-length 10 s in
@@ -59,14 +59,14 @@ field-rest (field v rest) = rest
 
 pub field-law : (form : FieldForm) (s : List ℕ) (v : ℕ) (rest : List ℕ) → fieldIn form s ≡ field v rest → FieldLaw form s v rest
 unfolding fieldIn
-field-law form s v rest e = go (isField form (run (baseOf form) s) s) refl e
+field-law form s v rest e = go (isField form (digitCount (baseOf form) s) s) refl e
   where
-    go : (t : Bool) → isField form (run (baseOf form) s) s ≡ t → cond t (field (numeral (baseOf form) (run (baseOf form) s) s) (drop (run (baseOf form) s) s)) none ≡ field v rest → FieldLaw form s v rest
+    go : (t : Bool) → isField form (digitCount (baseOf form) s) s ≡ t → cond t (field (numeral (baseOf form) (digitCount (baseOf form) s) s) (drop (digitCount (baseOf form) s) s)) none ≡ field v rest → FieldLaw form s v rest
     go true t e =
-        let law = field-of-run form s (run (baseOf form) s) refl t in
-        let p : numeral (baseOf form) (run (baseOf form) s) s ≡ v = ap field-value e in
-        let q : drop (run (baseOf form) s) s ≡ rest = ap field-rest e in
-        subst (λ (r : List ℕ). FieldLaw form s v r) q (subst (λ (w : ℕ). FieldLaw form s w (drop (run (baseOf form) s) s)) p law)
+        let law = field-of-run form s (digitCount (baseOf form) s) refl t in
+        let p : numeral (baseOf form) (digitCount (baseOf form) s) s ≡ v = ap field-value e in
+        let q : drop (digitCount (baseOf form) s) s ≡ rest = ap field-rest e in
+        subst (λ (r : List ℕ). FieldLaw form s v r) q (subst (λ (w : ℕ). FieldLaw form s w (drop (digitCount (baseOf form) s) s)) p law)
     go false t e = absurd (subst is-field (sym e) tt)
 
 -- ---- the fields of a line

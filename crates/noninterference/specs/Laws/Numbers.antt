@@ -12,14 +12,14 @@ use Rattle.model.specs.Answers.{accepted}
 use Rattle.model.specs.Plan.{clipCount, stateCount, transitionCount, sampleCount, NumberName, Rate, Value, Duration, PoseFloat, numberAt, number, samplePose}
 use Rattle.model.specs.Check.{check}
 use Rattle.model.specs.Clips.{firstIndex, secondIndex, duration, poseAt, clipPose}
-use Rattle.model.specs.Unseen.{Reachable, Played, plays, InPlan, Unseen}
+use Rattle.model.specs.Unseen.{Reachable, Played, plays, HasNumber, Unseen}
 use Rattle.model.specs.Laws.Passed.{numbers-fit, some-samples, state-passed, reachable-below}
 use Rattle.model.specs.Laws.State.{clip-below}
 use Rattle.model.specs.Laws.Numbers.{number-inside, one-name}
 use Rattle.noninterference.specs.Alike.{Closed, AlikeNumbers}
 
 module _ (plan chosen : List ℕ) (a b : List Float) (ok : check plan (length a) ≡ accepted) (closed : Closed plan chosen) (alike : AlikeNumbers plan chosen a b) where
-  seen-same : (name : NumberName) → InPlan plan name → ¬ Unseen plan chosen name → number plan a name ≡ number plan b name
+  seen-same : (name : NumberName) → HasNumber plan name → ¬ Unseen plan chosen name → number plan a name ≡ number plan b name
   unfolding number
   seen-same name h seen =
       alike .places (numberAt plan name) (omega (arith, number-inside plan name h, numbers-fit plan (length a) ok))

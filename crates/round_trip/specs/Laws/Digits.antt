@@ -12,7 +12,7 @@ use lib.Arith.{digits-div, digits-mod}
 use borrow.Author.Tests.{lt-ltb, le-ltb, le-leb, lt-leb}
 use Rattle.model.specs.Check.{within}
 use Rattle.model.specs.Laws.Tests.{within-low, within-high}
-use Rattle.model.specs.Text.{digit, run, numeral}
+use Rattle.model.specs.Text.{digit, digitCount, numeral}
 use Rattle.model.specs.Program.{glyph, digits}
 use Rattle.model.specs.Laws.Digits.{length-digits, run-length, run-digit}
 
@@ -49,8 +49,8 @@ module _ (base : ℕ) (some : 0 < base) (few : base ≤ 16) where
   written-digit : (n : ℕ) → digit (glyph (n % base)) ≡ n % base
   written-digit n = digit-glyph (n % base) (omega (arith, mod-lt n some))
 
-  pub run-digits : (k n : ℕ) (r : List ℕ) → run base (digits base k n ++ r) ≡ k + run base r
-  unfolding digits run
+  pub run-digits : (k n : ℕ) (r : List ℕ) → digitCount base (digits base k n ++ r) ≡ k + digitCount base r
+  unfolding digits digitCount
   run-digits zero n r = omega arith
   run-digits (suc k) n r =
       rw (append-assoc, run-digits k (n / base) (glyph (n % base) ∷ r), written-digit n, lt-ltb (n % base) base (mod-lt n some)) (omega arith)
@@ -70,7 +70,7 @@ module _ (base : ℕ) (some : 0 < base) (few : base ≤ 16) where
 
   -- ---- read, then written
 
-  pub digits-numeral : (s : List ℕ) (k : ℕ) → k ≤ run base s → digits base k (numeral base k s) ++ drop k s ≡ s
+  pub digits-numeral : (s : List ℕ) (k : ℕ) → k ≤ digitCount base s → digits base k (numeral base k s) ++ drop k s ≡ s
   unfolding digits numeral
   digits-numeral s zero h = refl
   digits-numeral s (suc k) h =

@@ -15,7 +15,7 @@ use Rattle.model.specs.declared.FieldForm.{FieldForm}
 use Rattle.model.specs.declared.FieldForm.the-variants.{Decimal, Bits}
 use Rattle.model.specs.Check.{within}
 use Rattle.model.specs.Laws.Tests.{and-left, and-right, or-right, not-true}
-use Rattle.model.specs.Text.{front, digit, run, numeral, baseOf, isField, none, field, fieldIn}
+use Rattle.model.specs.Text.{front, digit, digitCount, numeral, baseOf, isField, none, field, fieldIn}
 use Rattle.model.specs.Program.{glyph, digits, places}
 use Rattle.model.specs.Laws.Text.{mostOf, field-law}
 use Rattle.model.specs.Laws.Digits.{length-digits, run-digit, numeral-small}
@@ -73,7 +73,7 @@ numeral-some zero s some = omega arith
 numeral-some (suc j) s some = omega (arith, numeral-some j s some)
 
 -- digits without a leading zero are as many as their number has
-pub places-numeral : (f j : ℕ) (s : List ℕ) → j < run 10 s → 0 < digit (front s) → numeral 10 (suc j) s < 10 ^ suc f → places f (numeral 10 (suc j) s) ≡ suc j
+pub places-numeral : (f j : ℕ) (s : List ℕ) → j < digitCount 10 s → 0 < digit (front s) → numeral 10 (suc j) s < 10 ^ suc f → places f (numeral 10 (suc j) s) ≡ suc j
 unfolding places numeral
 places-numeral f zero s there some h = places-one f (numeral 10 1 s) (omega (arith, run-digit 10 s 0 there))
 places-numeral zero (suc j) s there some h = absurd (omega (arith, numeral-some j s some))
@@ -84,7 +84,7 @@ places-numeral (suc f) (suc j) s there some h =
     rw (le-ltb (n * 10 + digit (getD s (suc j) 0)) 10 large, digits-div n d, places-numeral f j s (omega arith) some (omega arith))
 
 -- only '0' is the digit 0
-front-some : (s : List ℕ) → 0 < run 10 s → (front s ≡ 48 → ⊥) → 0 < digit (front s)
+front-some : (s : List ℕ) → 0 < digitCount 10 s → (front s ≡ 48 → ⊥) → 0 < digit (front s)
 unfolding glyph
 front-some s there other = go (ℕ-discrete (digit (front s)) 0)
   where
@@ -92,7 +92,7 @@ front-some s there other = go (ℕ-discrete (digit (front s)) 0)
     go (yes p) = absurd (other (sym (glyph-digit (front s) (omega arith)) ∙ ap glyph p))
     go (no p) = omega arith
 
-normal-places : (k : ℕ) (s : List ℕ) → k ≤ run 10 s → 1 ≤ k → (eqb k 1 || not (eqb (front s) 48)) ≡ true → numeral 10 k s < 10 ^ 20
+normal-places : (k : ℕ) (s : List ℕ) → k ≤ digitCount 10 s → 1 ≤ k → (eqb k 1 || not (eqb (front s) 48)) ≡ true → numeral 10 k s < 10 ^ 20
     → places 19 (numeral 10 k s) ≡ k
 normal-places zero s there some normal h = absurd (omega arith)
 normal-places (suc zero) s there some normal h = places-one 19 (numeral 10 1 s) (numeral-small 10 s 1 there)
@@ -147,22 +147,22 @@ is-field (Decimal limit) v r few h =
 is-field Bits v r few h = refl
 
 width-is : (form : FieldForm) (s : List ℕ) → mostOf form ≤ maxPattern
-    → let k = run (baseOf form) s in isField form k s ≡ true → numeral (baseOf form) k s ≤ mostOf form → width form (numeral (baseOf form) k s) ≡ k
+    → let k = digitCount (baseOf form) s in isField form k s ≡ true → numeral (baseOf form) k s ≤ mostOf form → width form (numeral (baseOf form) k s) ≡ k
 unfolding isField width
 width-is (Decimal limit) s few e h =
-    let k = run 10 s in
+    let k = digitCount 10 s in
     let first = and-left (leb 1 k && (eqb k 1 || not (eqb (front s) 48))) (leb (numeral 10 k s) limit) e in
     normal-places k s (omega arith) (leb-true 1 k (and-left _ _ first)) (and-right (leb 1 k) _ first) (omega arith)
-width-is Bits s few e h = sym (eqb-true (run 16 s) 8 e)
+width-is Bits s few e h = sym (eqb-true (digitCount 16 s) 8 e)
 
 module _ (form : FieldForm) (few : mostOf form ≤ maxPattern) where
   -- where no further digit follows
-  pub field-read : (v : ℕ) (r : List ℕ) → v ≤ mostOf form → run (baseOf form) r ≡ 0 → fieldIn form (fieldText form v ++ r) ≡ field v r
+  pub field-read : (v : ℕ) (r : List ℕ) → v ≤ mostOf form → digitCount (baseOf form) r ≡ 0 → fieldIn form (fieldText form v ++ r) ≡ field v r
   unfolding fieldIn fieldText
   field-read v r h end =
       let base = baseOf form in
       let k = width form v in
-      let run-is : run base (digits base k v ++ r) ≡ k = run-digits base (base-some form) (base-few form) k v r ∙ omega arith in
+      let run-is : digitCount base (digits base k v ++ r) ≡ k = run-digits base (base-some form) (base-few form) k v r ∙ omega arith in
       simp (
         run-is,
         is-field form v r few h,
@@ -178,7 +178,7 @@ module _ (form : FieldForm) (few : mostOf form ≤ maxPattern) where
       base = baseOf form
 
       k : ℕ
-      k = run base s
+      k = digitCount base s
 
       go : (x : Bool) → isField form k s ≡ x → cond x (field (numeral base k s) (drop k s)) none ≡ field v r → s ≡ digits base (width form v) v ++ r
       go true t e′ =

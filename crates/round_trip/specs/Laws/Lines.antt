@@ -15,7 +15,7 @@ use Rattle.model.specs.declared.FieldForm.the-variants.{Decimal, Bits}
 use Rattle.model.specs.Check.{within}
 use Rattle.model.specs.Laws.Tests.{and-left, and-right}
 use Rattle.model.specs.Laws.Text.{mostOf, field-law, EachLimit, Words, words-only, wordCount, bitsCount, words-count, bits-count}
-use Rattle.model.specs.Text.{front, lineFeed, comma, digit, run, baseOf, Field, none, field, fieldIn, maxWord, name, forms, Line, malformed, line, withField, fieldThen, fieldsIn, begins, lineIn, wordsIn, bitsIn, got, fromLine, readLine}
+use Rattle.model.specs.Text.{front, lineFeed, comma, digit, digitCount, baseOf, Field, none, field, fieldIn, maxWord, name, forms, Line, malformed, line, withField, fieldThen, fieldsIn, begins, lineIn, wordsIn, bitsIn, got, fromLine, readLine}
 use Rattle.model.specs.Program.{decimalText, bitsText, decimalFields, bitsFields, part, fieldsText, lineText}
 use Rattle.round_trip.specs.Laws.Fields.{maxPattern, base-few, fieldText, field-read, field-written}
 
@@ -59,8 +59,8 @@ any-within (Bits ∷ later) ws bs any h k = (most-getD maxPattern bs 0 k, any-wi
 -- ---- written, then read
 
 -- a comma or a line's end is no digit
-ended : (base : ℕ) → base ≤ 16 → (later : List FieldForm) (ws bs r : List ℕ) → run base (fieldsText later ws bs ++ lineFeed ∷ r) ≡ 0
-unfolding run digit within fieldsText decimalFields bitsFields
+ended : (base : ℕ) → base ≤ 16 → (later : List FieldForm) (ws bs r : List ℕ) → digitCount base (fieldsText later ws bs ++ lineFeed ∷ r) ≡ 0
+unfolding digitCount digit within fieldsText decimalFields bitsFields
 ended base few [] ws bs r = rw (le-ltb 16 base few)
 ended base few (Decimal limit ∷ later) ws bs r = rw (le-ltb 16 base few)
 ended base few (Bits ∷ later) ws bs r = rw (le-ltb 16 base few)
