@@ -15,16 +15,16 @@ use Rattle.model.specs.declared.FieldForm.{FieldForm}
 use Rattle.model.specs.declared.FieldForm.the-variants.{Decimal, Bits}
 use Rattle.model.specs.Text.{front, maxWord, forms, fieldCount, formOf, lineIn, wordsIn, bitsIn, bad, got, fromLine, readLine, floatsOf}
 use Rattle.model.specs.Laws.Text.{Bounded, LineLaw, line-law}
-use Rattle.lines.specs.declared.LineEnd.{LineEnd}
-use Rattle.lines.specs.declared.LineEnd.the-variants as end
+use Rattle.text.specs.declared.lines.LineEnd.{LineEnd}
+use Rattle.text.specs.declared.lines.LineEnd.the-variants as end
 use Rattle.text.specs.declared.put.Progress.{Progress}
 use Rattle.text.specs.declared.put.Step.{Step}
 use Rattle.text.specs.declared.put.Step.the-variants.{Next, Malformed}
-use Rattle.lines.specs.Found.{lineFound}
-use Rattle.lines.specs.Reading.{maxFields}
-use Rattle.lines.proofs.Laws.{fields-few}
+use Rattle.text.specs.LineFound.{lineFound}
+use Rattle.text.specs.LineReading.{maxFields}
+use Rattle.text.proofs.FieldLaws.{fields-few}
 use Rattle.text.specs.Steps.{InText, behindLine, withWord, withNumber, Room, LineValues, LineAt, Put, Stays, valued, ReadAs}
-use Rattle.lines.proofs.LineEnd.{the-type as end-type}
+use Rattle.text.proofs.lines.LineEnd.{the-type as end-type}
 use Rattle.text.proofs.Laws.{put-more, put-nothing, put-word, put-behind}
 
 -- ---- what `line_at` found

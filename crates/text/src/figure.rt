@@ -1,4 +1,7 @@
 // The lines of a figure in their order, and the call.
+use crate::lines::LineEnd;
+use crate::lines::MAX_FIELDS;
+use crate::lines::line_at;
 use crate::put::Progress;
 use crate::put::Step;
 use crate::put::behind;
@@ -8,9 +11,6 @@ use crate::put::read_lines;
 use layout::CLIP_COUNT_AT;
 use layout::JOINT_COUNT_AT;
 use layout::STATE_COUNT_AT;
-use lines::LineEnd;
-use lines::MAX_FIELDS;
-use lines::line_at;
 use model::LineKind;
 use model::Refusal;
 use model::TextAnswer;

@@ -1,11 +1,11 @@
--- `lines::field_form` meets its contract, kind by kind and field by field. Assumes nothing.
+-- `text::lines::field_form` meets its contract, kind by kind and field by field. Assumes nothing.
 use borrow.Author.Needs.{needs}
 use native.Mathlib.Omega.{arith}
 use mathlib.Core.Path.{refl, _∙_}
 use Rattle.model.specs.Text.{forms}
-use Rattle.lines.proofs.Laws.{bits-from, words-to}
-use Rattle.lines.proofs.field_form.Statement.{statement}
-use Rattle.lines.proofs.field_form.Tie as tie
+use Rattle.text.proofs.FieldLaws.{bits-from, words-to}
+use Rattle.text.proofs.lines.field_form.Statement.{statement}
+use Rattle.text.proofs.lines.field_form.Tie as tie
 
 pub field-form-spec : {M : Type 1} → statement M
 unfolding forms

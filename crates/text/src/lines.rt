@@ -19,8 +19,8 @@ ghost use Prim.Native.Nat.{_-_, _<_, _≤_};
 ghost use lib.ListN.{length, set, take, drop};
 ghost use Rattle.model.specs.Text.{name, begins, forms, fieldCount, formOf, fieldsIn, lineIn};
 ghost use Rattle.model.specs.declared.FieldForm.the-variants as FieldForm;
-ghost use Rattle.lines.specs.Found.{lineFound};
-ghost use Rattle.lines.specs.Reading.{maxFields, lineOf, Step};
+ghost use Rattle.text.specs.LineFound.{lineFound};
+ghost use Rattle.text.specs.LineReading.{maxFields, lineOf, FieldStep};
 
 // No line has more fields.
 pub const MAX_FIELDS: usize = 8;
@@ -110,7 +110,7 @@ pub fn field_form(kind: LineKind, k: usize) -> FieldForm
 // ---- reading one
 
 // What is read of a line: the values, how many fields are left, and the place behind what is read.
-struct Reading {
+struct LineReading {
     values: [usize; MAX_FIELDS],
     left: usize,
     end: usize,
@@ -137,9 +137,9 @@ fn with_value(values: [usize; MAX_FIELDS], k: usize, value: usize) -> [usize; MA
 }
 
 // A comma and the first of the fields that are left. Where they do not stand nothing is left, and the place is the text's end, which is no line's end.
-fn field_at(text: &[u8], at: usize, kind: LineKind, reading: Reading) -> Reading
+fn field_at(text: &[u8], at: usize, kind: LineKind, reading: LineReading) -> LineReading
     requires { ⌜ (1 ≤ reading .left) × (reading .left ≤ fieldCount kind) ⌝ }
-    ensures { λ r. ⌜ Step kind (now (text .entry)) at reading r ⌝ }
+    ensures { λ r. ⌜ FieldStep kind (now (text .entry)) at reading r ⌝ }
 {
     let left = reading.left;
     let k = field_count(kind) - left;
@@ -148,14 +148,14 @@ fn field_at(text: &[u8], at: usize, kind: LineKind, reading: Reading) -> Reading
         let field = read_field(text, at + 1, field_form(kind, k));
         if let Field::Value { value, end } = field {
             let values = with_value(values, k, value);
-            return Reading {
+            return LineReading {
                 values,
                 left: left - 1,
                 end,
             };
         }
     }
-    Reading {
+    LineReading {
         values,
         left: 0,
         end: text.len(),
@@ -170,15 +170,15 @@ struct Fields<'a> {
 }
 
 // The first of the fields that are left, where the cursor stands.
-fn next<'a>(fields: Fields<'a>, kind: LineKind, reading: Reading) -> Reading
+fn next<'a>(fields: Fields<'a>, kind: LineKind, reading: LineReading) -> LineReading
     requires { ⌜ (1 ≤ reading .left) × (reading .left ≤ fieldCount kind) ⌝ }
-    ensures { λ r. ⌜ Step kind (now (fields .entry .text)) (fields .entry .at) reading r ⌝ }
+    ensures { λ r. ⌜ FieldStep kind (now (fields .entry .text)) (fields .entry .at) reading r ⌝ }
 {
     field_at(fields.text, fields.at, kind, reading)
 }
 
 // The fields that are left, read through one cursor.
-fn read_fields(text: &[u8], kind: LineKind, begun: Reading) -> Reading
+fn read_fields(text: &[u8], kind: LineKind, begun: LineReading) -> LineReading
     requires { ⌜ begun .left ≤ fieldCount kind ⌝ }
     ensures { λ r. ⌜ (r .left ≡ 0) × (lineOf kind (now (text .entry)) (r .end) r ≡ lineOf kind (now (text .entry)) (begun .end) begun) ⌝ }
 {
@@ -198,7 +198,7 @@ fn read_fields(text: &[u8], kind: LineKind, begun: Reading) -> Reading
 fn fields_at(text: &[u8], at: usize, kind: LineKind, values: &mut [usize; MAX_FIELDS]) -> LineEnd
     ensures { λ r. ⌜ lineFound (now (text .entry)) (take (fieldCount kind) (now (values .exit))) r (fieldsIn (forms kind) (drop at (now (text .entry)))) ⌝ }
 {
-    let begun = Reading {
+    let begun = LineReading {
         values: [0; MAX_FIELDS],
         left: field_count(kind),
         end: at,

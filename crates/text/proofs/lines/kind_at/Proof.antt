@@ -1,10 +1,10 @@
--- `lines::kind_at` meets its contract, kind by kind. Assumes nothing.
+-- `text::lines::kind_at` meets its contract, kind by kind. Assumes nothing.
 use borrow.Author.Needs.{needs}
 use Rattle.model.specs.declared.LineKind.the-variants.{Figure, Joint, Clip, State, Node, Go, Pose}
 use Rattle.model.specs.Text.{name}
-use Rattle.lines.proofs.Laws.{name-positive}
-use Rattle.lines.proofs.kind_at.Statement.{statement}
-use Rattle.lines.proofs.kind_at.Tie as tie
+use Rattle.text.proofs.FieldLaws.{name-positive}
+use Rattle.text.proofs.lines.kind_at.Statement.{statement}
+use Rattle.text.proofs.lines.kind_at.Tie as tie
 
 pub kind-at-spec : {M : Type 1} → statement M
 unfolding name

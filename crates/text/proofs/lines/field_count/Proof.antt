@@ -1,9 +1,9 @@
--- `lines::field_count` meets its contract, kind by kind. Assumes nothing.
+-- `text::lines::field_count` meets its contract, kind by kind. Assumes nothing.
 use borrow.Author.Needs.{needs}
 use mathlib.Core.Path.{ap, sym}
 use Rattle.model.specs.Text.{forms, fieldCount}
-use Rattle.lines.proofs.field_count.Statement.{statement}
-use Rattle.lines.proofs.field_count.Tie as tie
+use Rattle.text.proofs.lines.field_count.Statement.{statement}
+use Rattle.text.proofs.lines.field_count.Tie as tie
 
 pub field-count-spec : {M : Type 1} → statement M
 unfolding forms

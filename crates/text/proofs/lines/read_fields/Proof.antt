@@ -51,21 +51,21 @@ use Rattle.model.specs.Text.{fieldCount}
 use Rattle.model.specs.declared.LineKind.{LineKind}
 use Rattle.model.proofs.LineKind as K
 use Rattle.model.proofs.LineKind.Laws as K′
-use Rattle.lines.specs.Reading.{lineOf, Step}
-use Rattle.lines.specs.declared.Reading.{Reading}
-use Rattle.lines.proofs.Reading as R
-use Rattle.lines.proofs.Reading.Laws as R′
-use Rattle.lines.specs.declared.Fields.{Fields}
-use Rattle.lines.proofs.Fields as T
-use Rattle.lines.proofs.Fields.Laws as T′
-use Rattle.lines.proofs.next as callee
-use Rattle.lines.proofs.next.Symbol as callee-def
-use Rattle.lines.proofs.next.Symbol.{name as #next}
-use Rattle.lines.proofs.next.Met as callee-thm
-use Rattle.lines.proofs.read_fields.Key.{name as #read-fields}
-use Rattle.lines.proofs.read_fields as f
-use Rattle.lines.proofs.read_fields.Statement as stated
-use Rattle.lines.proofs.read_fields.Code as code
+use Rattle.text.specs.LineReading.{lineOf, FieldStep}
+use Rattle.text.specs.declared.lines.LineReading.{LineReading}
+use Rattle.text.proofs.lines.LineReading as R
+use Rattle.text.proofs.lines.LineReading.Laws as R′
+use Rattle.text.specs.declared.lines.Fields.{Fields}
+use Rattle.text.proofs.lines.Fields as T
+use Rattle.text.proofs.lines.Fields.Laws as T′
+use Rattle.text.proofs.lines.next as callee
+use Rattle.text.proofs.lines.next.Symbol as callee-def
+use Rattle.text.proofs.lines.next.Symbol.{name as #next}
+use Rattle.text.proofs.lines.next.Met as callee-thm
+use Rattle.text.proofs.lines.read_fields.Key.{name as #read-fields}
+use Rattle.text.proofs.lines.read_fields as f
+use Rattle.text.proofs.lines.read_fields.Statement as stated
+use Rattle.text.proofs.lines.read_fields.Code as code
 
 -- the test of a `while`
 module _ {M : Type 1} {𝓤 : URA M} {H : Heap 𝓤} {A : Atoms 𝓤} {Kt : Type 0} {W : Given 𝓤 H A} {Γ : List (Item 𝓤)} {E : Env 𝓤 H} {C : Calls 𝓤 H}
@@ -84,7 +84,7 @@ textVal s = sliceVal (s .ptr) (length (s .now))
 abbrev kindVal : LineKind → Val
 kindVal kind = EL.val K.the-type K′.the-laws kind
 
-abbrev readVal : Reading → Val
+abbrev readVal : LineReading → Val
 readVal r = LL.val R.the-type R′.the-laws r
 
 abbrev textTy : Ty
@@ -99,10 +99,10 @@ module _ {M : Type 1} (𝓤 : URA M) (H : Heap 𝓤) (A : Atoms 𝓤) (mem : Mem
   Next = tripleOf 𝓤 H A callee.signature (callee.spec 𝓤 H A mem run)
 
 module _ {M : Type 1} (𝓤 : URA M) (H : Heap 𝓤) (A : Atoms 𝓤) (W : Given 𝓤 H A) (mem : Memory → SProp 𝓤) (run : Routine → Fun 𝓤) where
-  typed : (r : Reading) (v : Val) → Is R.the-row r (v ∷ []) → Holds (hasTy R′.mir v) × WT v
+  typed : (r : LineReading) (v : Val) → Is R.the-row r (v ∷ []) → Holds (hasTy R′.mir v) × WT v
   typed r v is = LL.lawful R.the-type R′.the-laws 𝓤 H A W .typed r (v ∷ []) is .0
 
-  module _ (κ : Lft) (q : Share) (s : RefT (List ℕ)) (kind : LineKind) (begun : Reading) (is-text : Is (ShrSlice (named 0) κ u8) s (textVal s ∷ []))
+  module _ (κ : Lft) (q : Share) (s : RefT (List ℕ)) (kind : LineKind) (begun : LineReading) (is-text : Is (ShrSlice (named 0) κ u8) s (textVal s ∷ []))
       (is-kind : Is K.the-row kind (kindVal kind ∷ [])) (is-begun : Is R.the-row begun (readVal begun ∷ [])) where
     abbrev vs : Vals f.signature (κ, tt)
     vs = (textVal s ∷ [], (kindVal kind ∷ [], (readVal begun ∷ [], tt)))
@@ -120,11 +120,11 @@ module _ {M : Type 1} (𝓤 : URA M) (H : Heap 𝓤) (A : Atoms 𝓤) (W : Given
     Own = ShrSlice (named 0) κ u8 .own s (textVal s ∷ [])
 
     -- what a turn begins with, and that turns end
-    abbrev Kept : Reading → Type 0
+    abbrev Kept : LineReading → Type 0
     Kept r = Is R.the-row r (readVal r ∷ []) × (r .left ≤ fieldCount kind) × (lineOf kind (now s) (r .end) r ≡ lineOf kind (now s) (begun .end) begun)
 
     abbrev State : Type 0
-    State = (r : Reading) × Kept r
+    State = (r : LineReading) × Kept r
 
     abbrev Fewer : State → State → Type 0
     Fewer x y = x .0 .left < y .0 .left
@@ -136,16 +136,16 @@ module _ {M : Type 1} (𝓤 : URA M) (H : Heap 𝓤) (A : Atoms 𝓤) (W : Given
     abbrev α : NamedLft
     α = namedLft 1 0 tt (κ, tt)
 
-    abbrev cursor : Reading → Fields
+    abbrev cursor : LineReading → Fields
     cursor r = record { text = s; at = r .end }
 
-    abbrev passed : Reading → Vals callee.signature (κ, tt)
+    abbrev passed : LineReading → Vals callee.signature (κ, tt)
     passed r = (T′.lowered (cursor r) ∷ [], (kindVal kind ∷ [], (readVal r ∷ [], tt)))
 
-    abbrev to : Reading → Next 𝓤 H A mem run .Ghost
+    abbrev to : LineReading → Next 𝓤 H A mem run .Ghost
     to r = (((κ, tt), (q, tt), tt, (cursor r, (kind, (r, tt))), passed r), tt)
 
-    goes : (r : Reading) → Is R.the-row r (readVal r ∷ []) → (1 ≤ r .left) × (r .left ≤ fieldCount kind)
+    goes : (r : LineReading) → Is R.the-row r (readVal r ∷ []) → (1 ≤ r .left) × (r .left ≤ fieldCount kind)
         → ent 𝓤 (⋆ 𝓤 H A ((‵ (flft κ q) ⊛ ‵ ftrue) ∷ ‵ Own ∷ [])) (sep 𝓤 (Next 𝓤 H A mem run .pre (to r)) (sem 𝓤 H A Own))
     goes r is here =
         qed W ((‵ (flft κ q) ⊛ ‵ ftrue) ∷ ‵ Own ∷ []) ∵ move ! (1 ∷ []) $ use1 W (‵ Own ⊛ ‵ Own) (shr-slice-copy 𝓤 H A W (named 0) κ u8 .twice s _) $ split ! $
@@ -159,16 +159,16 @@ module _ {M : Type 1} (𝓤 : URA M) (H : Heap 𝓤) (A : Atoms 𝓤) (W : Given
             owned ! R.the-row (Is R.the-row) (LL.makes R.the-type R′.the-plain 𝓤 H A) r _ is $ fjoin ! $
             owned ! K.the-row (Is K.the-row) (EL.makes K.the-type K′.the-plain 𝓤 H A) kind _ is-kind $ fjoin ! $ move ! (1 ∷ 0 ∷ []) $ fjoin ! $ done !
 
-    abbrev Ensured : Reading → Reading → SProp 𝓤
+    abbrev Ensured : LineReading → LineReading → SProp 𝓤
     Ensured r = ensured 𝓤 H A callee.ended (callee.clauses 𝓤 H A mem run) (κ, tt) (cursor r, (kind, (r, tt))) tt
 
-    abbrev Says : Reading → Reading → Type 0
-    Says r r′ = Step kind (now s) (r .end) r r′
+    abbrev Says : LineReading → LineReading → Type 0
+    Says r r′ = FieldStep kind (now s) (r .end) r r′
 
-    said : (r r′ : Reading) → ent 𝓤 (Ensured r r′) (fact 𝓤 (Says r r′))
+    said : (r r′ : LineReading) → ent 𝓤 (Ensured r r′) (fact 𝓤 (Says r r′))
     said r r′ = exE 𝓤 _ (λ ws. snd∗ 𝓤 (sem 𝓤 H A (lasts callee.ended (κ, tt) (cursor r, (kind, (r, tt))) ws)) (fact 𝓤 (Says r r′)))
 
-    still : (x : State) (r : Reading) (u : Val) → Is R.the-row r (u ∷ []) → Says (x .0) r → Kept r
+    still : (x : State) (r : LineReading) (u : Val) → Is R.the-row r (u ∷ []) → Says (x .0) r → Kept r
     still x r u is e =
         (subst (λ us. Is R.the-row r us) (LL.tells R.the-type R′.the-laws r (u ∷ []) is) is, omega (arith, e .fewer, x .1 .1), e .same ∙ x .1 .2)
 
@@ -185,7 +185,7 @@ module _ {M : Type 1} (𝓤 : URA M) (H : Heap 𝓤) (A : Atoms 𝓤) (W : Given
         qed W ((‵ (flft κ q) ⊛ ‵ ftrue) ∷ ‵ (owns (ShrSlice (named 0) κ u8 ∷ K.the-row ∷ R.the-row ∷ []) (s, (kind, (begun, tt))) vs) ∷ []) ∵
         frame ! $ fsplit ! $ keep ! (0 ∷ []) $ done !
 
-    at-wt : (r : Reading) → Is R.the-row r (readVal r ∷ []) → Holds (hasTy (T′.mir erased) (T′.lowered (cursor r))) × WT (T′.lowered (cursor r))
+    at-wt : (r : LineReading) → Is R.the-row r (readVal r ∷ []) → Holds (hasTy (T′.mir erased) (T′.lowered (cursor r))) × WT (T′.lowered (cursor r))
     at-wt r is = (tt, (shr-slice-lawful 𝓤 H A W (named 0) κ u8 .typed s _ is-text .0 .1, (typed r _ is .1 .1 .1 .0, tt)))
 
     module _ (l₀ l₁ l₂ l₃ l₄ l₅ l₆ l₇ : ℕ) where
@@ -228,7 +228,7 @@ module _ {M : Type 1} (𝓤 : URA M) (H : Heap 𝓤) (A : Atoms 𝓤) (W : Given
         calls-at ! (fmOf 𝓤 H (W .laws) 𝓣) (Next 𝓤 H A mem run) known (to (x .0))
         (and-then ! (load ! (from ! (stop !)) (look ! 2 refl)) (and-then ! (load ! (from ! (stop !)) (look ! 12 refl))
         (and-then ! (load ! (from ! (stop !)) (look ! 6 refl)) (no-more !)))) (λ u.
-        use1 W (later (some (λ (r : Reading). ((‵ (flft κ q) ⊛ ‵ ftrue) ⊛ ‵ (R.the-row .own r (u ∷ []))) ⊛ raw (Ensured (x .0) r)))) (id⊢ 𝓤 _) $ await ! tt $ pick ! (λ r.
+        use1 W (later (some (λ (r : LineReading). ((‵ (flft κ q) ⊛ ‵ ftrue) ⊛ ‵ (R.the-row .own r (u ∷ []))) ⊛ raw (Ensured (x .0) r)))) (id⊢ 𝓤 _) $ await ! tt $ pick ! (λ r.
         split ! $ move ! (1 ∷ []) $ use1 W (raw (fact 𝓤 (Says (x .0) r))) (said (x .0) r) $ heard ! (Says (x .0) r) (λ e. split ! $ move ! (1 ∷ []) $
         facts ! R.the-row (Is R.the-row) (shows 𝓤 H A R.the-row) r (u ∷ []) (λ is.
         -- [the token; what the text owns; _7; …; _0; …]
@@ -270,4 +270,4 @@ read-fields-spec 𝓤 H 𝓜 𝓖 𝓡 =
     entered 𝓤 H (tripleOf 𝓤 H (𝓖 .A) f.signature (f.spec 𝓤 H (𝓖 .A) (𝓜 .mem) (𝓡 .run)))
     (tables 𝓤 H 𝓜 𝓡 code.env .C) (tables 𝓤 H 𝓜 𝓡 code.env .Λ) #read-fields code.function (code.unfolded 𝓤 H 𝓜 𝓡)
     (meets 𝓤 H (𝓖 .A) (givenOf 𝓤 H 𝓜 𝓖) (𝓜 .mem) (𝓡 .run) (tablesOf 𝓤 H 𝓜 (tables 𝓤 H 𝓜 𝓡 code.env))
-    (cited 𝓤 H (Next 𝓤 H (𝓖 .A) (𝓜 .mem) (𝓡 .run)) 𝓜 𝓡 code.env #next callee-def.routine code.calls-lines·next (callee-thm.met 𝓤 H 𝓜 𝓖 𝓡)))
+    (cited 𝓤 H (Next 𝓤 H (𝓖 .A) (𝓜 .mem) (𝓡 .run)) 𝓜 𝓡 code.env #next callee-def.routine code.calls-text·lines·next (callee-thm.met 𝓤 H 𝓜 𝓖 𝓡)))

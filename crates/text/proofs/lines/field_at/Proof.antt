@@ -1,12 +1,25 @@
--- `lines::field_at` meets its contract: a field is read, or nothing is left. Assumes nothing.
+-- `text::lines::field_at` meets its contract: a field is read, or nothing is left. Assumes nothing.
 use borrow.Author.Needs.{needs}
 use native.Mathlib.Omega.{arith}
-use mathlib.Core.Path.{sym, ap, _∙_}
+use mathlib.Core.Path.{_≡_, sym, ap, _∙_}
+use mathlib.Core.List.{List}
+use lib.ListN.{length, length-map}
+use mir.Val.{Val}
+use denote.Laws.{Is}
+use denote.Struct.Laws as LL
+use Rattle.text.specs.declared.lines.LineReading.{LineReading}
+use Rattle.text.specs.LineReading.{maxFields}
+use Rattle.text.proofs.lines.LineReading as R
+use Rattle.text.proofs.lines.LineReading.Laws as R′
 use Rattle.fields.specs.Found.{found}
 use Rattle.fields.proofs.Bytes.{inside}
-use Rattle.lines.proofs.Laws.{fields-few, values-length, no-comma, no-field, field-goes}
-use Rattle.lines.proofs.field_at.Statement.{statement}
-use Rattle.lines.proofs.field_at.Tie as tie
+use Rattle.text.proofs.FieldLaws.{fields-few, no-comma, no-field, field-goes}
+use Rattle.text.proofs.lines.field_at.Statement.{statement}
+use Rattle.text.proofs.lines.field_at.Tie as tie
+
+-- the array's length, as the struct's type has it
+values-length : (reading : LineReading) (vs : List Val) → Is R.the-row reading vs → length (reading .values) ≡ maxFields
+values-length reading vs is = sym (length-map (reading .values) _) ∙ LL.owed R.the-type R′.the-laws reading vs is .0 .1 .0 .1
 
 add-read-field : tie.Need-add-read-field
 add-read-field c =

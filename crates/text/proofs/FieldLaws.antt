@@ -6,11 +6,8 @@ use mathlib.Core.Path.{_≡_, refl, sym, ap, _∙_}
 use mathlib.Core.Bool.{Bool, true, false, cond}
 use mathlib.Core.List.{List, [], _∷_, _++_, append-assoc, append-nil}
 use lib.Dec.{T, leb, eqb, leb→le}
-use lib.ListN.{length, getD, take, drop, set, replicate, length-map, getD-replicate}
+use lib.ListN.{length, getD, take, drop, set, replicate, getD-replicate}
 use lib.Seq.{getD-take, getD-drop, drop-cons, drop-length, drop-drop, take-suc-set}
-use mir.Val.{Val}
-use denote.Laws.{Is}
-use denote.Struct.Laws as LL
 use borrow.Author.Tests.{eq-eqb, ne-eqb}
 use Rattle.model.specs.declared.LineKind.{LineKind}
 use Rattle.model.specs.declared.LineKind.the-variants.{Figure, Joint, Clip, State, Node, Go, Pose}
@@ -18,10 +15,8 @@ use Rattle.model.specs.declared.FieldForm.{FieldForm}
 use Rattle.model.specs.declared.FieldForm.the-variants.{Decimal, Bits}
 use Rattle.model.specs.Text.{comma, lineFeed, maxWord, none, field, Line, malformed, line, name, forms, fieldCount, formOf, withField, fieldThen, fieldIn, fieldsIn, begins, lineIn}
 use Rattle.fields.proofs.Bytes.{front-at, positive, positive-at}
-use Rattle.lines.specs.declared.Reading.{Reading}
-use Rattle.lines.specs.Reading.{maxFields, withFields, lineOf, Step}
-use Rattle.lines.proofs.Reading as R
-use Rattle.lines.proofs.Reading.Laws as R′
+use Rattle.text.specs.declared.lines.LineReading.{LineReading}
+use Rattle.text.specs.LineReading.{maxFields, withFields, lineOf, FieldStep}
 
 -- ---- the kinds
 
@@ -63,17 +58,13 @@ module _ {kind is : LineKind} {k : ℕ} (n : ℕ) (e : kind ≡ is) where
 
 -- ---- fields
 
--- the array's length, as the struct's type has it
-pub values-length : (reading : Reading) (vs : List Val) → Is R.the-row reading vs → length (reading .values) ≡ maxFields
-values-length reading vs is = sym (length-map (reading .values) _) ∙ LL.owed R.the-type R′.the-laws reading vs is .0 .1 .0 .1
-
 one-more : (vs : List ℕ) (v : ℕ) (l : Line) → withFields vs (withField v l) ≡ withFields (vs ++ v ∷ []) l
 unfolding withField
 one-more vs v malformed = refl
 one-more vs v (line ws rest) = rw append-assoc
 
 -- b is the byte before field k, the first of those that are left
-module _ (kind : LineKind) (text : List ℕ) (at : ℕ) (before : Reading) (some : 1 ≤ before .left) (few : before .left ≤ fieldCount kind)
+module _ (kind : LineKind) (text : List ℕ) (at : ℕ) (before : LineReading) (some : 1 ≤ before .left) (few : before .left ≤ fieldCount kind)
     {b : ℕ} (is : b ≡ getD text at 0) where
   abbrev k : ℕ
   k = fieldCount kind - before .left
@@ -85,7 +76,7 @@ module _ (kind : LineKind) (text : List ℕ) (at : ℕ) (before : Reading) (some
 
   -- nothing is left, and at the text's end no line feed stands
   abbrev Stopped : List ℕ → Type 0
-  Stopped values = Step kind text at before (record { values = values; left = 0; end = length text })
+  Stopped values = FieldStep kind text at before (record { values = values; left = 0; end = length text })
 
   stops : {values : List ℕ} → fieldsIn (drop k (forms kind)) (drop at text) ≡ malformed → Stopped values
   unfolding lineOf fieldsIn
@@ -104,7 +95,7 @@ module _ (kind : LineKind) (text : List ℕ) (at : ℕ) (before : Reading) (some
     no-field h = stops (rw (goes, h))
 
     pub field-goes : {value end : ℕ} → length (before .values) ≡ maxFields → fieldIn form (drop (at + 1) text) ≡ field value (drop end text)
-        → Step kind text at before (record { values = set (before .values) i value; left = before .left - 1; end = end })
+        → FieldStep kind text at before (record { values = set (before .values) i value; left = before .left - 1; end = end })
     unfolding lineOf fieldThen
     field-goes {value} {end} places h =
         let stored : k < length (before .values) = omega (arith, fields-few kind) in
@@ -116,7 +107,7 @@ none-before malformed = refl
 none-before (line ws rest) = refl
 
 -- from a line of which nothing is read to one of which only the line feed may be left
-module _ (kind : LineKind) (text : List ℕ) (begun reading : Reading) (all : begun .left ≡ fieldCount kind) (done : reading .left ≡ 0)
+module _ (kind : LineKind) (text : List ℕ) (begun reading : LineReading) (all : begun .left ≡ fieldCount kind) (done : reading .left ≡ 0)
     (same : lineOf kind text (reading .end) reading ≡ lineOf kind text (begun .end) begun) {b : ℕ} (is : b ≡ getD text (reading .end) 0) where
   end-opened : fieldsIn (forms kind) (drop (begun .end) text)
       ≡ withFields (take (fieldCount kind) (reading .values)) (cond (eqb b lineFeed) (line [] (drop (reading .end + 1) text)) malformed)
@@ -128,8 +119,8 @@ module _ (kind : LineKind) (text : List ℕ) (begun reading : Reading) (all : be
   pub no-line-feed : (b ≡ lineFeed → ⊥) → fieldsIn (forms kind) (drop (begun .end) text) ≡ malformed
   no-line-feed h = rw (end-opened, ne-eqb _ _ h)
 
-  pub line-read : b ≡ lineFeed → fieldsIn (forms kind) (drop (begun .end) text) ≡ line (take (fieldCount kind) (reading .values)) (drop (reading .end + 1) text)
-  line-read h = rw (end-opened, eq-eqb _ _ h, append-nil)
+  pub fields-read : b ≡ lineFeed → fieldsIn (forms kind) (drop (begun .end) text) ≡ line (take (fieldCount kind) (reading .values)) (drop (reading .end + 1) text)
+  fields-read h = rw (end-opened, eq-eqb _ _ h, append-nil)
 
 -- ---- a line, by the length r of its name where that stands
 

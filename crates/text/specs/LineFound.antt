@@ -4,8 +4,8 @@ use mathlib.Core.Path.{_≡_}
 use mathlib.Core.List.{List}
 use lib.ListN.{length, drop}
 use Rattle.model.specs.Text as Text
-use Rattle.lines.specs.declared.LineEnd.{LineEnd}
-use Rattle.lines.specs.declared.LineEnd.the-variants.{At, Malformed}
+use Rattle.text.specs.declared.lines.LineEnd.{LineEnd}
+use Rattle.text.specs.declared.lines.LineEnd.the-variants.{At, Malformed}
 
 -- the line's values, and that it ends inside the text
 pub record LineFound (text values : List ℕ) (end : ℕ) (read : Text.Line) : Type 0 where

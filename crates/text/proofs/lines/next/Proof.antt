@@ -49,21 +49,21 @@ use Rattle.model.specs.Text.{fieldCount}
 use Rattle.model.specs.declared.LineKind.{LineKind}
 use Rattle.model.proofs.LineKind as K
 use Rattle.model.proofs.LineKind.Laws as K′
-use Rattle.lines.specs.Reading.{Step}
-use Rattle.lines.specs.declared.Fields.{Fields}
-use Rattle.lines.specs.declared.Reading.{Reading}
-use Rattle.lines.proofs.Fields as T
-use Rattle.lines.proofs.Fields.Laws as T′
-use Rattle.lines.proofs.Reading as R
-use Rattle.lines.proofs.Reading.Laws as R′
-use Rattle.lines.proofs.field_at as callee
-use Rattle.lines.proofs.field_at.Symbol as callee-def
-use Rattle.lines.proofs.field_at.Symbol.{name as #field-at}
-use Rattle.lines.proofs.field_at.Met as callee-thm
-use Rattle.lines.proofs.next.Key.{name as #next}
-use Rattle.lines.proofs.next as f
-use Rattle.lines.proofs.next.Statement as stated
-use Rattle.lines.proofs.next.Code as code
+use Rattle.text.specs.LineReading.{FieldStep}
+use Rattle.text.specs.declared.lines.Fields.{Fields}
+use Rattle.text.specs.declared.lines.LineReading.{LineReading}
+use Rattle.text.proofs.lines.Fields as T
+use Rattle.text.proofs.lines.Fields.Laws as T′
+use Rattle.text.proofs.lines.LineReading as R
+use Rattle.text.proofs.lines.LineReading.Laws as R′
+use Rattle.text.proofs.lines.field_at as callee
+use Rattle.text.proofs.lines.field_at.Symbol as callee-def
+use Rattle.text.proofs.lines.field_at.Symbol.{name as #field-at}
+use Rattle.text.proofs.lines.field_at.Met as callee-thm
+use Rattle.text.proofs.lines.next.Key.{name as #next}
+use Rattle.text.proofs.lines.next as f
+use Rattle.text.proofs.lines.next.Statement as stated
+use Rattle.text.proofs.lines.next.Code as code
 
 -- `Fields` at the lifetime of this signature
 abbrev B : Lfts 1 → RattleType
@@ -81,7 +81,7 @@ module _ {M : Type 1} (𝓤 : URA M) (H : Heap 𝓤) (A : Atoms 𝓤) (W : Given
   abbrev Asks : FieldAt 𝓤 H A mem run .Ghost → SProp 𝓤
   Asks = FieldAt 𝓤 H A mem run .pre
 
-  module _ (κ : Lft) (q : Share) (d : Fields) (kind : LineKind) (reading : Reading) (is-kind : Is K.the-row kind (EL.vals K.the-type K′.the-laws kind))
+  module _ (κ : Lft) (q : Share) (d : Fields) (kind : LineKind) (reading : LineReading) (is-kind : Is K.the-row kind (EL.vals K.the-type K′.the-laws kind))
       (is-reading : Is R.the-row reading (LL.vals R.the-type R′.the-laws reading)) where
     -- the machine values of the struct, its slice, the kind and the reading
     abbrev mach : Val
@@ -102,8 +102,8 @@ module _ {M : Type 1} (𝓤 : URA M) (H : Heap 𝓤) (A : Atoms 𝓤) (W : Given
     abbrev Entry : SProp 𝓤
     Entry = onEntry 𝓤 H A f.signature (κ, tt) (q, tt) (d, (kind, (reading, tt))) vs
 
-    abbrev Says : Reading → Type 0
-    Says r = Step kind (now (d .text)) (d .at) reading r
+    abbrev Says : LineReading → Type 0
+    Says r = FieldStep kind (now (d .text)) (d .at) reading r
 
     abbrev ghosts : walkOf 𝓤 H A f.ended stayed (f.clauses 𝓤 H A mem run) .Ghost
     ghosts = (((κ, tt), (q, tt), tt, (d, (kind, (reading, tt))), vs), tt)
@@ -151,14 +151,14 @@ module _ {M : Type 1} (𝓤 : URA M) (H : Heap 𝓤) (A : Atoms 𝓤) (W : Given
         owned ! usize (Is usize) (uint-makes 𝓤 H A W w64) (d .at) _ (refl, fits) $ fjoin ! $ move ! (1 ∷ 0 ∷ []) $ fjoin ! $
         move ! (2 ∷ 0 ∷ []) $ use2 W (raw (Asks to)) (asked here) $ frame ! $ done !)
 
-    abbrev Ensured : Reading → SProp 𝓤
+    abbrev Ensured : LineReading → SProp 𝓤
     Ensured = ensured 𝓤 H A callee.ended (callee.clauses 𝓤 H A mem run) (κ, tt) (d .text, (d .at, (kind, (reading, tt)))) tt
 
     -- the callee has no `&mut`, so nothing is said of last values
-    said : (r : Reading) → ent 𝓤 (Ensured r) (fact 𝓤 (Says r))
+    said : (r : LineReading) → ent 𝓤 (Ensured r) (fact 𝓤 (Says r))
     said r = exE 𝓤 _ (λ ws. snd∗ 𝓤 (sem 𝓤 H A (lasts callee.ended (κ, tt) (d .text, (d .at, (kind, (reading, tt)))) ws)) (fact 𝓤 (Says r)))
 
-    exits : (r : Reading) (u : Val) → Says r → ent 𝓤 (⋆ 𝓤 H A (‵ (R.the-row .own r (u ∷ [])) ∷ (‵ (flft κ q) ⊛ ‵ ftrue) ∷ ‵ Own ∷ [])) (Post u)
+    exits : (r : LineReading) (u : Val) → Says r → ent 𝓤 (⋆ 𝓤 H A (‵ (R.the-row .own r (u ∷ [])) ∷ (‵ (flft κ q) ⊛ ‵ ftrue) ∷ ‵ Own ∷ [])) (Post u)
     exits r u e =
         qed W (‵ (R.the-row .own r (u ∷ [])) ∷ (‵ (flft κ q) ⊛ ‵ ftrue) ∷ ‵ Own ∷ []) ∵
         suffices ! _ (ends-at 𝓤 H A f.ended stayed (f.clauses 𝓤 H A mem run) W ghosts u r (tt, (tt, (tt, tt))) (tt, (tt, (tt, tt)))) $
@@ -180,7 +180,7 @@ module _ {M : Type 1} (𝓤 : URA M) (H : Heap 𝓤) (A : Atoms 𝓤) (W : Given
           calls-at ! fm (FieldAt 𝓤 H A mem run) known to
           (and-then ! (load ! (from ! (stop !)) (look ! 4 refl)) (and-then ! (load ! (from ! (stop !)) (look ! 2 refl))
           (and-then ! (load ! (from ! (stop !)) (look ! 8 refl)) (and-then ! (load ! (from ! (stop !)) (look ! 6 refl)) (no-more !))))) (λ u.
-          use1 W (later (some (λ (r : Reading). ((‵ (flft κ q) ⊛ ‵ ftrue) ⊛ ‵ (R.the-row .own r (u ∷ []))) ⊛ raw (Ensured r)))) (id⊢ 𝓤 _) $
+          use1 W (later (some (λ (r : LineReading). ((‵ (flft κ q) ⊛ ‵ ftrue) ⊛ ‵ (R.the-row .own r (u ∷ []))) ⊛ raw (Ensured r)))) (id⊢ 𝓤 _) $
           await ! tt $ pick ! (λ r.
           split ! $ move ! (1 ∷ []) $ use1 W (raw (fact 𝓤 (Says r))) (said r) $ heard ! (Says r) (λ e. split ! $ move ! (1 ∷ []) $
           -- [the result; the token; what the struct owns; _5; …; _4; …; _3; …; _2; …; _1; …; room for _0; …]
@@ -217,4 +217,4 @@ next-spec 𝓤 H 𝓜 𝓖 𝓡 =
     entered 𝓤 H (tripleOf 𝓤 H (𝓖 .A) f.signature (f.spec 𝓤 H (𝓖 .A) (𝓜 .mem) (𝓡 .run)))
     (tables 𝓤 H 𝓜 𝓡 code.env .C) (tables 𝓤 H 𝓜 𝓡 code.env .Λ) #next code.function (code.unfolded 𝓤 H 𝓜 𝓡)
     (meets 𝓤 H (𝓖 .A) (givenOf 𝓤 H 𝓜 𝓖) (𝓜 .mem) (𝓡 .run) (tablesOf 𝓤 H 𝓜 (tables 𝓤 H 𝓜 𝓡 code.env))
-    (cited 𝓤 H (FieldAt 𝓤 H (𝓖 .A) (𝓜 .mem) (𝓡 .run)) 𝓜 𝓡 code.env #field-at callee-def.routine code.calls-lines·field-at (callee-thm.met 𝓤 H 𝓜 𝓖 𝓡)))
+    (cited 𝓤 H (FieldAt 𝓤 H (𝓖 .A) (𝓜 .mem) (𝓡 .run)) 𝓜 𝓡 code.env #field-at callee-def.routine code.calls-text·lines·field-at (callee-thm.met 𝓤 H 𝓜 𝓖 𝓡)))

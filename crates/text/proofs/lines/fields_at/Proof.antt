@@ -1,11 +1,11 @@
--- `lines::fields_at` meets its contract: what is left of the line that was begun is its line feed, or the line is malformed. Assumes nothing.
+-- `text::lines::fields_at` meets its contract: what is left of the line that was begun is its line feed, or the line is malformed. Assumes nothing.
 use borrow.Author.Needs.{needs}
 use native.Mathlib.Omega.{arith}
 use Rattle.fields.proofs.Bytes.{inside}
-use Rattle.lines.specs.Found.{lineFound}
-use Rattle.lines.proofs.Laws.{no-line-feed, line-read}
-use Rattle.lines.proofs.fields_at.Statement.{statement}
-use Rattle.lines.proofs.fields_at.Tie as tie
+use Rattle.text.specs.LineFound.{lineFound}
+use Rattle.text.proofs.FieldLaws.{no-line-feed, fields-read}
+use Rattle.text.proofs.lines.fields_at.Statement.{statement}
+use Rattle.text.proofs.lines.fields_at.Tie as tie
 
 returns : tie.Need-returns
 unfolding lineFound
@@ -24,7 +24,7 @@ returns-2 c =
     let b = c .before .before in
     let r = b .before .read-fields in
     record {
-      reading = line-read _ _ _ _ (omega arith) (r .ensures .0) (r .ensures .1) (b .byte .ensures) (c .before .if1 .left);
+      reading = fields-read _ _ _ _ (omega arith) (r .ensures .0) (r .ensures .1) (b .byte .ensures) (c .before .if1 .left);
       inside = omega (arith, inside (b .before .before .before .before .args .text .now) (r .result .end) (b .byte .ensures) (omega arith));
     }
 

@@ -1,9 +1,9 @@
--- `lines::line_at` meets its contract: where no name was found its length is 0, which no name has. Assumes nothing.
+-- `text::lines::line_at` meets its contract: where no name was found its length is 0, which no name has. Assumes nothing.
 use borrow.Author.Needs.{needs}
-use Rattle.lines.specs.Found.{lineFound}
-use Rattle.lines.proofs.Laws.{unnamed-line, named-line}
-use Rattle.lines.proofs.line_at.Statement.{statement}
-use Rattle.lines.proofs.line_at.Tie as tie
+use Rattle.text.specs.LineFound.{lineFound}
+use Rattle.text.proofs.FieldLaws.{unnamed-line, named-line}
+use Rattle.text.proofs.lines.line_at.Statement.{statement}
+use Rattle.text.proofs.lines.line_at.Tie as tie
 
 returns : tie.Need-returns
 unfolding lineFound

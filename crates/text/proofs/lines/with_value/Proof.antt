@@ -1,12 +1,12 @@
--- `lines::with_value` meets its contract, place by place. Assumes nothing.
+-- `text::lines::with_value` meets its contract, place by place. Assumes nothing.
 use borrow.Author.Needs.{needs}
 use Prim.Native.Nat.{ℕ, _≤_, _<_}
 use native.Mathlib.Omega.{arith}
 use mathlib.Core.Path.{_≡_, ap, sym}
 use lib.ListN.{set}
-use Rattle.lines.specs.Reading.{maxFields}
-use Rattle.lines.proofs.with_value.Statement.{statement}
-use Rattle.lines.proofs.with_value.Tie as tie
+use Rattle.text.specs.LineReading.{maxFields}
+use Rattle.text.proofs.lines.with_value.Statement.{statement}
+use Rattle.text.proofs.lines.with_value.Tie as tie
 
 at : (s : tie.Start) (i : ℕ) → s .args .k ≡ i → set (s .args .values) i (s .args .value) ≡ set (s .args .values) (s .args .k) (s .args .value)
 at s i e = ap (λ (n : ℕ). set (s .args .values) n (s .args .value)) (sym e)
