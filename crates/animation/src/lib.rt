@@ -118,10 +118,13 @@ fn pose_from(numbers: &[f32], at: usize) -> Pose
     }
 }
 
-// Between the poses that two samples have of one joint. Where they stand is known from the position, which is worked out once for many joints.
+// Between the poses that two samples have of one joint. Where they stand is known from the position, which is worked
+// out once for many joints.
 pub fn pose_between(numbers: &[f32], first: usize, second: usize, factor: f32) -> Pose
     requires { ⌜ (first + 8 ≤ length (now numbers)) × (second + 8 ≤ length (now numbers)) ⌝ }
-    ensures { λ r. ⌜ r ≡ lerpPose (poseFrom (now (numbers .entry)) first) (poseFrom (now (numbers .entry)) second) factor ⌝ }
+    ensures { λ r. ⌜
+        r ≡ lerpPose (poseFrom (now (numbers .entry)) first) (poseFrom (now (numbers .entry)) second) factor
+        ⌝ }
 {
     lerp(
         pose_from(numbers, first),

@@ -13,8 +13,10 @@ ghost use Prim.Native.Nat.{ℕ, _+_, _*_, _<_, _≤_};
 ghost use lib.ListN.{length, getD};
 ghost use lib.Ieee.{nan};
 ghost use Rattle.model.specs.Text.{maxWord};
-ghost use Rattle.model.specs.Plan.{maxJoints, maxClips, maxSamples, root, word, parentAt, parent, sampleCountAt, sampleCount, samplesBefore, clipCount, jointCount, stateCount, number, Rate};
-ghost use Rattle.layout.specs.Layout.{layoutOf, stateLayout, nodeOf, conditionOf, numbersOf, Passes, InPlan, HasTransition};
+ghost use Rattle.model.specs.Plan.{maxJoints, maxClips, maxSamples, root, word, jointCount, clipCount, stateCount};
+ghost use Rattle.model.specs.Plan.{parentAt, parent, sampleCountAt, sampleCount, samplesBefore, number, Rate};
+ghost use Rattle.layout.specs.Layout.{layoutOf, stateLayout, nodeOf, conditionOf, numbersOf};
+ghost use Rattle.layout.specs.Layout.{Passes, InPlan, HasTransition};
 
 // The header's words, and the first parent.
 pub const JOINT_COUNT_AT: usize = 0;
@@ -116,7 +118,8 @@ pub fn is_root(parent: usize) -> bool
     parent == ROOT
 }
 
-// Where clip c's sample count stands, behind so many joints' parents. The first state begins where that of one more clip would stand.
+// Where clip c's sample count stands, behind so many joints' parents. The first state begins where that of one more
+// clip would stand.
 pub fn sample_count_at(joints: usize, c: usize) -> usize
     requires { ⌜ (joints ≤ maxWord) × (c ≤ maxWord) ⌝ }
     ensures { λ r. ⌜ ((plan : List ℕ) → joints ≡ jointCount plan → r ≡ sampleCountAt plan c) ⌝ }
@@ -225,7 +228,9 @@ pub fn rate(numbers: &[f32], c: usize) -> f32
 // Of a transition that the state has.
 pub fn numbers_at(numbers: &[f32], here: StateLayout, t: usize) -> TransitionNumbers
     requires { ⌜ HasTransition here t ⌝ }
-    ensures { λ r. ⌜ ((plan : List ℕ) → InPlan plan here → r ≡ numbersOf plan (now (numbers .entry)) (here .state) t) ⌝ }
+    ensures { λ r. ⌜
+        ((plan : List ℕ) → InPlan plan here → r ≡ numbersOf plan (now (numbers .entry)) (here .state) t)
+        ⌝ }
 {
     let at = here.values_at + TRANSITION_NUMBERS * t;
     TransitionNumbers {
@@ -236,7 +241,12 @@ pub fn numbers_at(numbers: &[f32], here: StateLayout, t: usize) -> TransitionNum
 
 // Where a sample's pose of a joint begins. The sample is counted over all clips.
 pub fn pose_at(layout: Layout, sample: usize, joint: usize) -> usize
-    requires { ⌜ (layout .joints ≤ maxJoints) × (layout .«poses_at» ≤ maxWord) × (sample < maxClips * maxSamples) × (joint ≤ maxJoints) ⌝ }
+    requires { ⌜
+        (layout .joints ≤ maxJoints)
+        × (layout .«poses_at» ≤ maxWord)
+        × (sample < maxClips * maxSamples)
+        × (joint ≤ maxJoints)
+        ⌝ }
     ensures { λ r. ⌜ r ≡ layout .«poses_at» + (sample * layout .joints + joint) * 8 ⌝ }
 {
     layout.poses_at + (sample * layout.joints + joint) * POSE_FLOATS

@@ -4,11 +4,12 @@ use model::Quaternion;
 use model::Row;
 ghost use mathlib.Core.Path.{_≡_};
 ghost use Rattle.model.specs.Numbers.{firstGuess, invSqrt};
-ghost use Rattle.model.specs.Rotations.{quaternion, dot, scaled, secondWeight, weightedSum, lerpQuaternion, productRow, product, quaternionToMatrix, fromTrace, fromDiagonal, matrixToQuaternion};
+ghost use Rattle.model.specs.Rotations.{quaternion, dot, scaled, secondWeight, weightedSum, lerpQuaternion, productRow};
+ghost use Rattle.model.specs.Rotations.{product, quaternionToMatrix, fromTrace, fromDiagonal, matrixToQuaternion};
 ghost use Rattle.math.specs.Scaling.{scaledByRoot, turnedRow, turned, turnedBack};
 
-// inv_sqrt's first guess, on bit patterns. The Rust shifts and subtracts a signed number; here its top bit is copied and the subtraction is
-// u32's wrapping one, which gives the same 32 bits.
+// inv_sqrt's first guess, on bit patterns. The Rust shifts and subtracts a signed number; here its top bit is copied
+// and the subtraction is u32's wrapping one, which gives the same 32 bits.
 pub fn first_guess(bits: u32) -> u32
     ensures { λ r. ⌜ r ≡ firstGuess bits ⌝ }
 {
@@ -114,7 +115,8 @@ pub fn quaternion_to_matrix(q: Quaternion) -> Matrix4
     }
 }
 
-// A quaternion that half the inverse root of t is yet to scale. matrix_to_quaternion takes that root once, after its tests.
+// A quaternion that half the inverse root of t is yet to scale. matrix_to_quaternion takes that root once, after its
+// tests.
 struct Unscaled {
     t: f32,
     q: Quaternion,
@@ -147,7 +149,8 @@ fn from_diagonal_0(m: Matrix4) -> Unscaled
     Unscaled { t, q }
 }
 
-// The cycle 0, 1, 2 turned by one, so that entry 1 of m is entry 0 here. The Rust looks i, j and k up in a table instead.
+// The cycle 0, 1, 2 turned by one, so that entry 1 of m is entry 0 here. The Rust looks i, j and k up in a table
+// instead.
 fn turned_row(r: Row) -> Row
     ensures { λ s. ⌜ s ≡ turnedRow r ⌝ }
 {

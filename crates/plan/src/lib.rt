@@ -100,7 +100,11 @@ fn laid_out(plan: &[u16], transitions: usize) -> Layout
 
 // Refusals 6 and 7: words left over, then the count of numbers.
 fn check_lengths(plan: &[u16], numbers: usize, end: usize, transitions: usize) -> Checked
-    requires { ⌜ Worded (now plan) × (end ≡ planEnd (now plan)) × (transitions ≡ transitionsBefore (now plan) (stateCount (now plan))) ⌝ }
+    requires { ⌜
+        Worded (now plan)
+        × (end ≡ planEnd (now plan))
+        × (transitions ≡ transitionsBefore (now plan) (stateCount (now plan)))
+        ⌝ }
     ensures { λ r. ⌜ LengthsChecked (now (plan .entry)) numbers r ⌝ }
 {
     if end < plan.len() {

@@ -16,9 +16,11 @@ ghost use lib.ListN.{getD};
 ghost use Rattle.model.specs.Answers.{values, each, require};
 ghost use Rattle.model.specs.Text.{maxWord};
 ghost use Rattle.model.specs.Plan.{maxNodes, maxPlan};
-ghost use Rattle.plan.specs.Parts.{CountsOf, isFree, checkClip, checkBlend, checkNodeAt, marksAfter, clipNodeAfter, HasInputs, NodesChecked};
+ghost use Rattle.plan.specs.Parts.{isFree, checkClip, checkBlend, checkNodeAt, marksAfter, clipNodeAfter};
+ghost use Rattle.plan.specs.Parts.{CountsOf, HasInputs, NodesChecked};
 
-// A mark for each node, and one more: a power of two of bytes is copied without overlap, which makes the whole check twice as fast.
+// A mark for each node, and one more: a power of two of bytes is copied without overlap, which makes the whole check
+// twice as fast.
 const MARKS: usize = MAX_NODES + 1;
 
 // A node by its number in its state: the word of its kind, and the number that it has if it is a clip.
@@ -128,7 +130,12 @@ pub fn check_nodes(
     counts: Counts,
     first_clip_node: usize,
 ) -> Nodes
-    requires { ⌜ (at + 1 + 4 * n ≤ maxWord) × (n ≤ maxNodes) × («first_clip_node» ≤ maxPlan) × CountsOf (now plan) counts ⌝ }
+    requires { ⌜
+        (at + 1 + 4 * n ≤ maxWord)
+        × (n ≤ maxNodes)
+        × («first_clip_node» ≤ maxPlan)
+        × CountsOf (now plan) counts
+        ⌝ }
     ensures { λ r. ⌜ NodesChecked (now (plan .entry)) at «first_clip_node» n r ⌝ }
 {
     let mut used = [false; MARKS];

@@ -18,7 +18,8 @@ ghost use Rattle.model.specs.Text.{maxWord};
 ghost use Rattle.model.specs.Plan.{maxJoints, maxClips, maxStates, maxPlan, parentAt, stateAt};
 ghost use Rattle.plan.specs.Parts.{CountsOf, checkTransitionAt, StateChecked, StatesChecked};
 
-// What the check of all states comes to: the answer, and beside it the word after the last state and the count of transitions.
+// What the check of all states comes to: the answer, and beside it the word after the last state and the count of
+// transitions.
 pub struct States {
     pub answer: Answer,
     pub end: usize,
@@ -88,7 +89,12 @@ fn check_state(plan: &[u16], at: usize, counts: Counts, clip_node: usize) -> Ans
 
 // All states, the first of which begins at `from`.
 pub fn check_states(plan: &[u16], from: usize, counts: Counts) -> States
-    requires { ⌜ (from ≤ parentAt maxJoints + maxClips) × (from ≡ stateAt (now plan) 0) × CountsOf (now plan) counts × (counts .states ≤ maxStates) ⌝ }
+    requires { ⌜
+        (from ≤ parentAt maxJoints + maxClips)
+        × (from ≡ stateAt (now plan) 0)
+        × CountsOf (now plan) counts
+        × (counts .states ≤ maxStates)
+        ⌝ }
     ensures { λ r. ⌜ StatesChecked (now (plan .entry)) (counts .states) r ⌝ }
 {
     let states = counts.states;

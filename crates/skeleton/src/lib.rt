@@ -111,7 +111,12 @@ fn set_matrix(buffer: &mut [f32], at: usize, m: Matrix4)
 
 // The parent's matrix is read back from the buffer: parents come first.
 fn parent_matrix(plan: &[u16], buffer: &[f32], j: usize) -> Matrix4
-    requires { ⌜ (j ≤ maxWord) × (parentAt j < length (now plan)) × (isRoot (now plan) j ≡ false → parent (now plan) j < j) × (outputAt j ≤ length (now buffer)) ⌝ }
+    requires { ⌜
+        (j ≤ maxWord)
+        × (parentAt j < length (now plan))
+        × (isRoot (now plan) j ≡ false → parent (now plan) j < j)
+        × (outputAt j ≤ length (now buffer))
+        ⌝ }
     ensures { λ r. ⌜ r ≡ parentIn (now (plan .entry)) (now (buffer .entry)) j ⌝ }
 {
     let p = parent(plan, j);
@@ -121,10 +126,14 @@ fn parent_matrix(plan: &[u16], buffer: &[f32], j: usize) -> Matrix4
     matrix_at(buffer, output_at(p))
 }
 
-// Joint j's matrix: its own, from its pose, times its parent's. Row by row: a product of whole matrices is not inlined where it is called.
+// Joint j's matrix: its own, from its pose, times its parent's. Row by row: a product of whole matrices is not inlined
+// where it is called.
 fn set_joint(output: &mut [f32], j: usize, base: Matrix4, pose: Pose)
     requires { ⌜ (j ≤ maxWord) × (outputAt (suc j) ≤ length (now output)) ⌝ }
-    ensures { λ _. ⌜ now (output .exit) ≡ stored (now (output .entry)) (outputAt j) (floats (product base (toMatrix pose))) ⌝ }
+    ensures { λ _. ⌜
+        now (output .exit)
+        ≡ stored (now (output .entry)) (outputAt j) (floats (product base (toMatrix pose)))
+        ⌝ }
 {
     let at = output_at(j);
     let own = to_matrix(pose);
@@ -137,7 +146,10 @@ fn set_joint(output: &mut [f32], j: usize, base: Matrix4, pose: Pose)
 // The matrix of the first joint, which is a root.
 pub fn calculate_root_pose(pose: Pose, output: &mut [f32])
     requires { ⌜ outputAt 1 ≤ length (now output) ⌝ }
-    ensures { λ _. ⌜ now (output .exit) ≡ stored (now (output .entry)) 0 (floats (product identityMatrix (toMatrix pose))) ⌝ }
+    ensures { λ _. ⌜
+        now (output .exit)
+        ≡ stored (now (output .entry)) 0 (floats (product identityMatrix (toMatrix pose)))
+        ⌝ }
 {
     set_joint(output, 0, identity_matrix(), pose);
 }
@@ -150,8 +162,15 @@ pub fn calculate_global_poses(
     count: usize,
     output: &mut [f32],
 )
-    requires { ⌜ Passes (now plan) × (count ≤ blockSize) × (first + count ≤ jointCount (now plan)) × (outputAt (first + count) ≤ length (now output)) ⌝ }
-    ensures { λ _. ⌜ GlobalPoses (now (plan .entry)) (now (block .entry)) first count (now (output .entry)) (now (output .exit)) ⌝ }
+    requires { ⌜
+        Passes (now plan)
+        × (count ≤ blockSize)
+        × (first + count ≤ jointCount (now plan))
+        × (outputAt (first + count) ≤ length (now output))
+        ⌝ }
+    ensures { λ _. ⌜
+        GlobalPoses (now (plan .entry)) (now (block .entry)) first count (now (output .entry)) (now (output .exit))
+        ⌝ }
 {
     let mut i = 0;
     while i < count {

@@ -41,7 +41,9 @@ fn condition_holds(
     t: usize,
 ) -> bool
     requires { ⌜ Passes (now plan) × InPlan (now plan) here × (t < here .transitions) ⌝ }
-    ensures { λ r. ⌜ r ≡ conditionHolds (now (plan .entry)) (now (numbers .entry)) (now (parameters .entry)) (here .state) t ⌝ }
+    ensures { λ r. ⌜
+        r ≡ conditionHolds (now (plan .entry)) (now (numbers .entry)) (now (parameters .entry)) (here .state) t
+        ⌝ }
 {
     let condition = condition_at(plan, here, t);
     let parameter = condition.parameter;
@@ -111,7 +113,10 @@ pub fn step(
     instant: f64,
 ) -> Stepped
     requires { ⌜ Passes (now plan) × InPlan (now plan) here ⌝ }
-    ensures { λ r. ⌜ StepMade (now (plan .entry)) (now (numbers .entry)) (here .state) transition (now (parameters .entry)) instant r ⌝ }
+    ensures { λ r. ⌜
+        StepMade (now (plan .entry)) (now (numbers .entry)) (here .state) transition
+        (now (parameters .entry)) instant r
+        ⌝ }
 {
     let Transition::Running {
         start,
