@@ -22,11 +22,10 @@ use transform::identity;
 use transform::lerp;
 ghost use mathlib.Core.Path.{_≡_};
 ghost use Prim.Native.Nat.{_+_, _<_, _≤_};
-ghost use Rattle.model.specs.Tree.{statePose};
-ghost use Rattle.layout.specs.Layout.{InPlan};
 ghost use Rattle.lanes.specs.Lanes.{blockSize, laneAt};
 ghost use Rattle.blend_tree.specs.Sampling.{poseBetween, Sampled};
-ghost use Rattle.blend_tree.specs.Blocks.{Filled, Playable, InBlock, Slots, combined, poseOfNode};
+ghost use Rattle.blend_tree.specs.Blocks.{Filled, FilledFor, InBlock, SlottedState};
+ghost use Rattle.blend_tree.specs.Blocks.{combined, nodePoseAt, statePoseAt};
 
 // What a blend node makes of its inputs' poses: a lerp from a to b, or b, weakened towards the identity, on top of a.
 fn combine(lerps: bool, a: Pose, b: Pose, p: f32) -> Pose
@@ -47,7 +46,10 @@ pub fn combine_all(
     count: usize,
 )
     requires { ⌜ count ≤ blockSize ⌝ }
-    ensures { λ _. ⌜ Filled (λ i. combined lerps (laneAt (now (x .entry)) i) (laneAt (now (y .entry)) i) factor) count (now (x .exit)) ⌝ }
+    ensures { λ _. ⌜
+        Filled (λ i. combined lerps (laneAt (now (x .entry)) i) (laneAt (now (y .entry)) i) factor)
+        count (now (x .exit))
+        ⌝ }
 {
     let mut i = 0;
     while i < count {
@@ -58,7 +60,8 @@ pub fn combine_all(
     }
 }
 
-// A clip, between two of its samples, whose places are worked out once: with `joint_pose` in each lane some sizes are slower by a sixth.
+// A clip, between two of its samples, whose places are worked out once: with `joint_pose` in each lane some sizes are
+// slower by a sixth.
 fn clip_poses(
     numbers: &[f32],
     layout: Layout,
@@ -67,7 +70,7 @@ fn clip_poses(
     block: &mut [f32; BLOCK_FLOATS],
 )
     requires { ⌜ Sampled (now numbers) layout samples × InBlock layout joints ⌝ }
-    ensures { λ _. ⌜ Filled (λ i. poseBetween (now (numbers .entry)) layout samples (joints .first + i)) (joints .count) (now (block .exit)) ⌝ }
+    ensures { λ _. ⌜ FilledFor joints (now (block .exit)) (poseBetween (now (numbers .entry)) layout samples) ⌝ }
 {
     let low = pose_at(layout, samples.first, joints.first);
     let high = pose_at(layout, samples.second, joints.first);
@@ -92,8 +95,16 @@ fn node_poses(
     node: usize,
     block: &mut [f32; BLOCK_FLOATS],
 )
-    requires { ⌜ Playable (now plan) (now numbers) (state .layout) × InPlan (now plan) (state .here) × Slots (now plan) (state .here .state) (now slots) × InBlock (state .layout) joints × (node < state .here .nodes) ⌝ }
-    ensures { λ _. ⌜ Filled (λ i. poseOfNode (now (plan .entry)) (now (numbers .entry)) (now (parameters .entry)) (state .time) (state .here .state) (now (instances .entry)) node (joints .first + i)) (joints .count) (now (block .exit)) ⌝ }
+    requires { ⌜
+        SlottedState (now plan) (now numbers) state (now slots)
+        × InBlock (state .layout) joints
+        × (node < state .here .nodes)
+        ⌝ }
+    ensures { λ _. ⌜
+        FilledFor joints (now (block .exit))
+        (nodePoseAt (now (plan .entry)) (now (numbers .entry)) (now (parameters .entry))
+        state (now (instances .entry)) node)
+        ⌝ }
 {
     let words = node_at(plan, state.here, node);
     if words.kind == 0 {
@@ -142,8 +153,12 @@ pub fn state_poses(
     joints: Joints,
     block: &mut [f32; BLOCK_FLOATS],
 )
-    requires { ⌜ Playable (now plan) (now numbers) (state .layout) × InPlan (now plan) (state .here) × Slots (now plan) (state .here .state) (now slots) × InBlock (state .layout) joints ⌝ }
-    ensures { λ _. ⌜ Filled (λ i. statePose (now (plan .entry)) (now (numbers .entry)) (now (parameters .entry)) (state .time) (state .here .state) (now (instances .entry)) (joints .first + i)) (joints .count) (now (block .exit)) ⌝ }
+    requires { ⌜ SlottedState (now plan) (now numbers) state (now slots) × InBlock (state .layout) joints ⌝ }
+    ensures { λ _. ⌜
+        FilledFor joints (now (block .exit))
+        (statePoseAt (now (plan .entry)) (now (numbers .entry)) (now (parameters .entry))
+        state (now (instances .entry)))
+        ⌝ }
 {
     let root = state.here.nodes - 1;
     node_poses(

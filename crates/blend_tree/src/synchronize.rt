@@ -17,9 +17,10 @@ ghost use Prim.Native.Nat.{suc, _+_, _<_, _≤_};
 ghost use lib.ListN.{getD};
 ghost use Rattle.model.specs.Text.{maxWord};
 ghost use Rattle.model.specs.Plan.{maxNodes, maxClipNodes, isClip, clipNode};
-ghost use Rattle.model.specs.Tree.{targetLength, isTouched, nodeLength, synchronizedRate, rateSet, synchronizeNode, synchronize};
+ghost use Rattle.model.specs.Tree.{targetLength, isTouched, nodeLength, synchronizedRate, rateSet};
+ghost use Rattle.model.specs.Tree.{synchronizeNode, synchronize};
 ghost use Rattle.layout.specs.Layout.{Passes, InPlan};
-ghost use Rattle.blend_tree.specs.Blocks.{Playable, Slots};
+ghost use Rattle.blend_tree.specs.Blocks.{Slots, PlayableState, SlottedState};
 
 // Called for the proof alone: of a slice the length is known there, of a reference to an array it is not.
 fn sized(slots: &[u8]) {}
@@ -38,8 +39,8 @@ pub fn clip_node(plan: &[u16], here: StateLayout, i: usize) -> usize
     next
 }
 
-// That of every node, in one pass. A slot of another node is not read. They are bytes in an array of the caller's, since copies of them cost more than all else
-// for a state of one node.
+// That of every node, in one pass. A slot of another node is not read. They are bytes in an array of the caller's,
+// since copies of them cost more than all else for a state of one node.
 fn clip_slots(plan: &[u16], here: StateLayout, slots: &mut [u8; SLOTS])
     requires { ⌜ Passes (now plan) × InPlan (now plan) here ⌝ }
     ensures { λ _. ⌜ Slots (now (plan .entry)) (here .state) (now (slots .exit)) ⌝ }
@@ -56,7 +57,13 @@ fn clip_slots(plan: &[u16], here: StateLayout, slots: &mut [u8; SLOTS])
 
 // The clip node after node i.
 fn next_clip_node(plan: &[u16], here: StateLayout, i: usize, clip_node: usize) -> usize
-    requires { ⌜ Passes (now plan) × InPlan (now plan) here × (i < here .nodes) × («clip_node» ≤ maxWord) × («clip_node» ≡ clipNode (now plan) (here .state) i) ⌝ }
+    requires { ⌜
+        Passes (now plan)
+        × InPlan (now plan) here
+        × (i < here .nodes)
+        × («clip_node» ≤ maxWord)
+        × («clip_node» ≡ clipNode (now plan) (here .state) i)
+        ⌝ }
     ensures { λ r. ⌜ (r ≡ clipNode (now (plan .entry)) (here .state) (suc i)) × (r ≤ «clip_node» + 1) ⌝ }
 {
     let words = node_at(plan, here, i);
@@ -68,7 +75,11 @@ fn next_clip_node(plan: &[u16], here: StateLayout, i: usize, clip_node: usize) -
 
 // The length of the clip that a clip node names.
 fn node_length(plan: &[u16], numbers: &[f32], state: StateAt, i: usize) -> f32
-    requires { ⌜ Playable (now plan) (now numbers) (state .layout) × InPlan (now plan) (state .here) × (i < state .here .nodes) × (isClip (now plan) (state .here .state) i ≡ true) ⌝ }
+    requires { ⌜
+        PlayableState (now plan) (now numbers) state
+        × (i < state .here .nodes)
+        × (isClip (now plan) (state .here .state) i ≡ true)
+        ⌝ }
     ensures { λ r. ⌜ r ≡ nodeLength (now (plan .entry)) (now (numbers .entry)) (state .here .state) i ⌝ }
 {
     let words = node_at(plan, state.here, i);
@@ -111,7 +122,10 @@ fn synchronize_input(
     instances: &mut [f32; MAX_INSTANCES],
 )
     requires { ⌜ (i ≤ maxNodes) × (getD (now slots) i 0 < maxClipNodes) ⌝ }
-    ensures { λ _. ⌜ now (instances .exit) ≡ rateSet time (getD (now (slots .entry)) i 0) (synchronizedRate length target) (now (instances .entry)) ⌝ }
+    ensures { λ _. ⌜
+        now (instances .exit)
+        ≡ rateSet time (getD (now (slots .entry)) i 0) (synchronizedRate length target) (now (instances .entry))
+        ⌝ }
 {
     let n = slots[i] as usize;
     let instance = instance_at(instances, n);
@@ -131,8 +145,12 @@ fn synchronize_node(
     i: usize,
     instances: &mut [f32; MAX_INSTANCES],
 )
-    requires { ⌜ Playable (now plan) (now numbers) (state .layout) × InPlan (now plan) (state .here) × Slots (now plan) (state .here .state) (now slots) × (i < state .here .nodes) ⌝ }
-    ensures { λ _. ⌜ now (instances .exit) ≡ synchronizeNode (now (plan .entry)) (now (numbers .entry)) (now (parameters .entry)) (state .time) (state .here .state) i (now (instances .entry)) ⌝ }
+    requires { ⌜ SlottedState (now plan) (now numbers) state (now slots) × (i < state .here .nodes) ⌝ }
+    ensures { λ _. ⌜
+        now (instances .exit)
+        ≡ synchronizeNode (now (plan .entry)) (now (numbers .entry)) (now (parameters .entry))
+        (state .time) (state .here .state) i (now (instances .entry))
+        ⌝ }
 {
     if !is_touched(plan, state.here, i) {
         return;
@@ -157,8 +175,12 @@ fn synchronize(
     slots: &[u8; SLOTS],
     instances: &mut [f32; MAX_INSTANCES],
 )
-    requires { ⌜ Playable (now plan) (now numbers) (state .layout) × InPlan (now plan) (state .here) × Slots (now plan) (state .here .state) (now slots) ⌝ }
-    ensures { λ _. ⌜ now (instances .exit) ≡ synchronize (now (plan .entry)) (now (numbers .entry)) (now (parameters .entry)) (state .time) (state .here .state) (now (instances .entry)) ⌝ }
+    requires { ⌜ SlottedState (now plan) (now numbers) state (now slots) ⌝ }
+    ensures { λ _. ⌜
+        now (instances .exit)
+        ≡ synchronize (now (plan .entry)) (now (numbers .entry)) (now (parameters .entry))
+        (state .time) (state .here .state) (now (instances .entry))
+        ⌝ }
 {
     let mut i = 0;
     while i < state.here.nodes {
@@ -176,8 +198,13 @@ pub fn synchronize_state(
     slots: &mut [u8; SLOTS],
     instances: &mut [f32; MAX_INSTANCES],
 )
-    requires { ⌜ Playable (now plan) (now numbers) (state .layout) × InPlan (now plan) (state .here) ⌝ }
-    ensures { λ _. ⌜ Slots (now (plan .entry)) (state .here .state) (now (slots .exit)) × (now (instances .exit) ≡ synchronize (now (plan .entry)) (now (numbers .entry)) (now (parameters .entry)) (state .time) (state .here .state) (now (instances .entry))) ⌝ }
+    requires { ⌜ PlayableState (now plan) (now numbers) state ⌝ }
+    ensures { λ _. ⌜
+        Slots (now (plan .entry)) (state .here .state) (now (slots .exit))
+        × (now (instances .exit)
+        ≡ synchronize (now (plan .entry)) (now (numbers .entry)) (now (parameters .entry))
+        (state .time) (state .here .state) (now (instances .entry)))
+        ⌝ }
 {
     clip_slots(plan, state.here, slots);
     synchronize(plan, numbers, state, parameters, slots, instances);

@@ -60,10 +60,10 @@ module _ (t : ℕ) where
       → let a = start c .args in NodeRead (a .plan .now) (a .state .here) (a .node) (c .node-at .result)
   read c =
       let r = start c .pre .1 in
-      record { passes = passes (r .0); state = r .1; below = r .4; found = c .node-at .ensures }
+      record { passes = passes (r .0 .0); state = r .0 .1; below = r .2; found = c .node-at .ensures }
 
   small : (c : lts.After-node-at (claims t) (node-poses-at t) reads.Post) → start c .args .node ≤ maxNodes
-  small c = let r = start c .pre .1 in node-small (passes (r .0)) (r .1) (r .4)
+  small c = let r = start c .pre .1 in node-small (passes (r .0 .0)) (r .0 .1) (r .2)
 
   -- a clip node's instance and clip are there
   instance-there : (c : lts.After-instance-at-arg (claims t) (node-poses-at t) reads.Post)
@@ -71,7 +71,7 @@ module _ (t : ℕ) where
   instance-there c =
       let k = c .before .before .before in
       let r = start k .pre .1 in
-      slot-small (passes (r .0)) (r .1) (r .4) (r .2) (is-clip _ _ _ (k .node-at .ensures) (c .before .if1 .taken))
+      slot-small (passes (r .0 .0)) (r .0 .1) (r .2) (r .0 .2) (is-clip _ _ _ (k .node-at .ensures) (c .before .if1 .taken))
 
   clip-there : (c : lts.After-instance-at (claims t) (node-poses-at t) reads.Post)
       → let k = c .before .before .before .before in k .node-at .result .a < clipCount (start k .args .plan .now)
@@ -81,12 +81,12 @@ module _ (t : ℕ) where
       clip-inside (read k) (is-clip _ _ _ (k .node-at .ensures) (i .if1 .taken))
 
   clip-at-requires : lts.Need-clip-at-requires (claims t) (node-poses-at t) reads.Post
-  clip-at-requires c κs = (start (c .before .before .before .before) .pre .1 .0, clip-there c)
+  clip-at-requires c κs = (start (c .before .before .before .before) .pre .1 .0 .0, clip-there c)
 
   clip-samples-requires : lts.Need-clip-samples-requires (claims t) (node-poses-at t) reads.Post
   clip-samples-requires c κs =
       let i = c .before in
-      clip-sized (start (i .before .before .before .before) .pre .1 .0) (clip-there i) (c .clip-at .ensures)
+      clip-sized (start (i .before .before .before .before) .pre .1 .0 .0) (clip-there i) (c .clip-at .ensures)
 
   clip-poses-requires : lts.Need-clip-poses-requires (claims t) (node-poses-at t) reads.Post
   clip-poses-requires c κs =
@@ -94,7 +94,7 @@ module _ (t : ℕ) where
       let i = k .before in
       let s = start (i .before .before .before .before) in
       let r = s .pre .1 in
-      (sampled (r .0) (clip-there i) _ (k .clip-at .ensures) (c .before .clip-samples .ensures), r .3)
+      (sampled (r .0 .0) (clip-there i) _ (k .clip-at .ensures) (c .before .clip-samples .ensures), r .1)
 
   returns : lts.Need-returns (claims t) (node-poses-at t) reads.Post
   returns c j h =
@@ -105,8 +105,8 @@ module _ (t : ℕ) where
       let s = start k in
       let r = s .pre .1 in
       c .clip-poses .ensures j h
-      ∙ of-clip (read k) (s .args .numbers .now) (s .args .parameters .now) (s .args .state .time) (s .args .instances .now) (s .args .joints .first + j) (r .0) (i .if1 .taken)
-      (v .instance-at .ensures ∙ ap (instanceAt (s .args .instances .now)) (slot-found (passes (r .0)) (r .1) (r .4) (r .2))) (q .before .clip-at .ensures) (q .clip-samples .ensures)
+      ∙ of-clip (read k) (s .args .numbers .now) (s .args .parameters .now) (s .args .state .time) (s .args .instances .now) (s .args .joints .first + j) (r .0 .0) (i .if1 .taken)
+      (v .instance-at .ensures ∙ ap (instanceAt (s .args .instances .now)) (slot-found (passes (r .0 .0)) (r .0 .1) (r .2) (r .0 .2))) (q .before .clip-at .ensures) (q .clip-samples .ensures)
 
   node-poses-requires : lts.Need-node-poses-requires (claims t) (node-poses-at t) reads.Post
   node-poses-requires c κs =
@@ -114,7 +114,7 @@ module _ (t : ℕ) where
       let k = e .before .before in
       let r = start k .pre .1 in
       let less = inputs-before (read k) (no-clip _ _ _ (k .node-at .ensures) (e .if1 .left)) in
-      (omega (arith, less, start k .pre .0), (r .0, r .1, r .2, r .3, omega (arith, less, r .4)))
+      (omega (arith, less, start k .pre .0), (r .0, r .1, omega (arith, less, r .2)))
 
   node-poses-requires-2 : lts.Need-node-poses-requires-2 (claims t) (node-poses-at t) reads.Post
   node-poses-requires-2 c κs =
@@ -122,7 +122,7 @@ module _ (t : ℕ) where
       let k = e .before .before in
       let r = start k .pre .1 in
       let less = inputs-before (read k) (no-clip _ _ _ (k .node-at .ensures) (e .if1 .left)) in
-      (omega (arith, less, start k .pre .0), (r .0, r .1, r .2, r .3, omega (arith, less, r .4)))
+      (omega (arith, less, start k .pre .0), (r .0, r .1, omega (arith, less, r .2)))
 
   -- the parameter, after both inputs
   parameter-known : (c : lts.After-node-poses2 (claims t) (node-poses-at t) reads.Post) → c .before .before .before .before .before .before .node-at .result .parameter < maxParameters
@@ -156,5 +156,5 @@ pub +node-poses-spec : {M : Type 1} → statement M
     (node-poses-requires-2 t)
     (λ c. omega (arith, parameter-known t c))
     (λ c. omega (arith, parameter-known t c))
-    (λ c κs. c .before .before .before .before .before .before .before .before .before .before .before .before .before .pre .1 .3 .small)
+    (λ c κs. c .before .before .before .before .before .before .before .before .before .before .before .before .before .pre .1 .1 .small)
     (returns-2 t))

@@ -7,17 +7,17 @@ use Rattle.blend_tree.proofs.poses.state_poses.Statement.{statement}
 use Rattle.blend_tree.proofs.poses.state_poses.Tie as tie
 
 sub-root : tie.Need-sub-root
-sub-root c = let r = c .before .before .before .pre in omega (arith, root-there (r .1) (r .0))
+sub-root c = let r = c .before .before .before .pre in omega (arith, root-there (r .0 .1) (r .0 .0))
 
 node-poses-requires : tie.Need-node-poses-requires
 node-poses-requires c κs =
     let r = c .before .before .before .before .pre in
-    (r .0, r .1, r .2, r .3, omega (arith, root-there (r .1) (r .0)))
+    (r .0, r .1, omega (arith, root-there (r .0 .1) (r .0 .0)))
 
 returns : tie.Need-returns
 returns c j h =
     let s = c .before .before .before .before .before in
-    c .node-poses .ensures j h ∙ root-pose (s .pre .1) (s .pre .0) (s .args .parameters .now) (s .args .state .time) (s .args .instances .now) (s .args .joints .first + j)
+    c .node-poses .ensures j h ∙ root-pose (s .pre .0 .1) (s .pre .0 .0) (s .args .parameters .now) (s .args .state .time) (s .args .instances .now) (s .args .joints .first + j)
 
 pub state-poses-spec : {M : Type 1} → statement M
 state-poses-spec = tie.close (tie.spec sub-root node-poses-requires returns)

@@ -8,15 +8,15 @@ use Rattle.blend_tree.proofs.synchronize.node_length.Statement.{stateme
 use Rattle.blend_tree.proofs.synchronize.node_length.Tie as tie
 
 node-at-requires : tie.Need-node-at-requires
-node-at-requires c κs = let p = c .before .before .pre in (passes (p .0), p .1, p .2)
+node-at-requires c κs = let p = c .before .before .pre in (passes (p .0 .0), p .0 .1, p .1)
 
 read : (c : tie.After-node-at) → let a = c .before .before .before .args in NodeRead (a .plan .now) (a .state .here) (a .i) (c .node-at .result)
-read c = let p = c .before .before .before .pre in record { passes = passes (p .0); state = p .1; below = p .2; found = c .node-at .ensures }
+read c = let p = c .before .before .before .pre in record { passes = passes (p .0 .0); state = p .0 .1; below = p .1; found = c .node-at .ensures }
 
 sample-count-requires : tie.Need-sample-count-requires
 sample-count-requires c κs =
     let p = c .before .before .before .pre in
-    (passes (p .0), p .0 .found, clip-inside (read c) (p .3))
+    (passes (p .0 .0), p .0 .0 .found, clip-inside (read c) (p .2))
 
 returns : tie.Need-returns
 unfolding duration nodeLength nodeOf

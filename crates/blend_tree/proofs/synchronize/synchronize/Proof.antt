@@ -23,7 +23,7 @@ loop-holds c = (omega arith, refl)
 synchronize-node-requires : tie.Need-synchronize-node-requires Inv-loop μ-loop
 synchronize-node-requires c κs =
     let p = c .before .before .before .before .before .before .pre in
-    (p .0, p .1, p .2, c .before .if1 .taken)
+    (p, c .before .if1 .taken)
 
 loop-again : tie.Need-loop-again Inv-loop μ-loop
 unfolding synchronizeNodes

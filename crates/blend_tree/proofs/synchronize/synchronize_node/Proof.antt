@@ -24,43 +24,43 @@ known c =
     let p = c .before .before .before .before .before .pre in
     let e = c .node-at .ensures in
     let t = touched-inputs _ _ _ e (touched c) in
-    let r : NodeRead _ _ _ _ = record { passes = passes (p .0); state = p .1; below = p .3; found = e } in
+    let r : NodeRead _ _ _ _ = record { passes = passes (p .0 .0); state = p .0 .1; below = p .1; found = e } in
     (inputs-inside r (t .0) .0, t .1, inputs-inside r (t .0) .1, t .2, parameter-small r (t .0))
 
 is-touched-requires : tie.Need-is-touched-requires
-is-touched-requires c κs = let p = c .before .before .pre in (passes (p .0), p .1, p .3)
+is-touched-requires c κs = let p = c .before .before .pre in (passes (p .0 .0), p .0 .1, p .1)
 
 returns : tie.Need-returns
 unfolding synchronizeNode
 returns c = rw (sym (c .before .is-touched .ensures) ∙ not-true _ (c .if1 .taken))
 
 node-at-requires : tie.Need-node-at-requires
-node-at-requires c κs = let p = c .before .before .before .before .pre in (passes (p .0), p .1, p .3)
+node-at-requires c κs = let p = c .before .before .before .before .pre in (passes (p .0 .0), p .0 .1, p .1)
 
 node-length-requires : tie.Need-node-length-requires
 node-length-requires c κs =
     let p = c .before .before .before .before .before .pre in
-    (p .0, p .1, known c .0, known c .1)
+    ((p .0 .0, p .0 .1), known c .0, known c .1)
 
 node-length-requires-2 : tie.Need-node-length-requires-2
 node-length-requires-2 c κs =
     let n = c .before in
     let p = n .before .before .before .before .before .pre in
-    (p .0, p .1, known n .2, known n .3)
+    ((p .0 .0, p .0 .1), known n .2, known n .3)
 
 synchronize-input-requires : tie.Need-synchronize-input-requires
 synchronize-input-requires c κs =
     let n = c .before .before .before .before .before in
     let p = n .before .before .before .before .before .pre in
-    let ok = passes (p .0) in
-    (node-small ok (p .1) (known n .0), slot-small ok (p .1) (known n .0) (p .2) (known n .1))
+    let ok = passes (p .0 .0) in
+    (node-small ok (p .0 .1) (known n .0), slot-small ok (p .0 .1) (known n .0) (p .0 .2) (known n .1))
 
 synchronize-input-requires-2 : tie.Need-synchronize-input-requires-2
 synchronize-input-requires-2 c κs =
     let n = c .before .before .before .before .before .before .before in
     let p = n .before .before .before .before .before .pre in
-    let ok = passes (p .0) in
-    (node-small ok (p .1) (known n .2), slot-small ok (p .1) (known n .2) (p .2) (known n .3))
+    let ok = passes (p .0 .0) in
+    (node-small ok (p .0 .1) (known n .2), slot-small ok (p .0 .1) (known n .2) (p .0 .2) (known n .3))
 
 returns-2 : tie.Need-returns-2
 returns-2 c =
@@ -69,9 +69,9 @@ returns-2 c =
     let b = t .before .before in
     let n = b .before .before in
     let p = n .before .before .before .before .before .pre in
-    let ok = passes (p .0) in
+    let ok = passes (p .0 .0) in
     both-synchronized _ _ _ (n .node-at .ensures) _ _ _ _ _ _ _ _ _ _ _ (touched n) (b .before .node-length .ensures) (b .node-length2 .ensures) (t .target-length .ensures)
-    (slot-found ok (p .1) (known n .0) (p .2)) (slot-found ok (p .1) (known n .2) (p .2)) (y .synchronize-input .ensures) (c .synchronize-input2 .ensures)
+    (slot-found ok (p .0 .1) (known n .0) (p .0 .2)) (slot-found ok (p .0 .1) (known n .2) (p .0 .2)) (y .synchronize-input .ensures) (c .synchronize-input2 .ensures)
 
 pub synchronize-node-spec : {M : Type 1} → statement M
 synchronize-node-spec =
