@@ -19,17 +19,16 @@ use Rattle.model.specs.Tree.{statePose, synchronize}
 use Rattle.model.specs.Controller.{isTargetBelow, transitionFactor, currentInstances, targetInstances, instancesIn, currentPose, targetPose, poseIn}
 use Rattle.model.specs.Skeleton.{jointMatrices, flat, written}
 use Rattle.layout.specs.declared.Layout.{Layout}
-use Rattle.layout.specs.Layout.{InPlan}
 use Rattle.layout.proofs.Laws.{joints-found}
 use Rattle.lanes.specs.Lanes.{blockSize, laneAt}
 use Rattle.blend_tree.specs.declared.StateAt.{StateAt}
 use Rattle.blend_tree.specs.declared.Joints.{Joints}
-use Rattle.blend_tree.specs.Blocks.{Filled, Playable, InBlock, Slots}
+use Rattle.blend_tree.specs.Blocks.{Filled, Playable, InBlock, SlottedState, statePoseAt}
 use Rattle.blend_tree.proofs.NodeLaws.{passes}
-use Rattle.skeleton.specs.Buffer.{GlobalPoses, jointsWritten}
+use Rattle.skeleton.specs.Buffer.{HasRoom, GlobalPoses, jointsWritten}
 use Rattle.output_pose.specs.declared.Blend.{Blend}
 use Rattle.output_pose.specs.declared.Blend.the-variants.{Alone, Towards}
-use Rattle.output_pose.specs.Shown.{skeletonOf, poseAt, shownPose, TargetReady, Ready, StateShown, TargetSynchronized, Blended, Shown}
+use Rattle.output_pose.specs.Shown.{skeletonOf, shownPose, TargetReady, Ready, StateShown, TargetSynchronized, Blended, Shown}
 use Rattle.output_pose.proofs.Blend.{the-type as blend-type}
 
 -- ---- blocks
@@ -45,23 +44,23 @@ is-alone Alone t = refl
 is-alone (Towards there factor) t = absurd (omega (arith, t))
 
 module _ (plan : List ℕ) (numbers parameters current instances : List Float) (j : ℕ) (state : StateAt) {b : Blend} where
-  pub pose-alone : b ≡ Alone → poseAt plan numbers parameters current j state ≡ shownPose plan numbers parameters current instances j state b
+  pub pose-alone : b ≡ Alone → statePoseAt plan numbers parameters state current j ≡ shownPose plan numbers parameters current instances j state b
   unfolding shownPose
   pose-alone e = rw e
 
   pub pose-towards : {there : StateAt} {factor : Float} → b ≡ Towards there factor
-      → lerp (poseAt plan numbers parameters current j state) (poseAt plan numbers parameters instances j there) factor ≡ shownPose plan numbers parameters current instances j state b
+      → lerp (statePoseAt plan numbers parameters state current j) (statePoseAt plan numbers parameters there instances j) factor ≡ shownPose plan numbers parameters current instances j state b
   unfolding shownPose
   pose-towards e = rw e
 
 -- the other state is one of the plan's
 pub target-known : {plan : List ℕ} {numbers : List Float} {state : StateAt} {blend : Blend} {slots targetSlots : List ℕ} {joints : Joints} {there : StateAt} {factor : Float}
     → Ready plan numbers state blend slots targetSlots → InBlock (state .layout) joints → blend ≡ Towards there factor
-    → Playable plan numbers (there .layout) × InPlan plan (there .here) × Slots plan (there .here .state) targetSlots × InBlock (there .layout) joints
+    → SlottedState plan numbers there targetSlots × InBlock (there .layout) joints
 unfolding TargetReady
 target-known r i e =
     let t = rw e at (r .target) in
-    rw (t .0) (r .playable, t .1, t .2, i)
+    rw (t .0) ((r .playable, t .1, t .2), i)
 
 -- what a loop over blocks keeps: the matrices of the joints below `first` are written over the old output
 pub record Through (plan : List ℕ) (layout : Layout) (poseOf : ℕ → Pose) (old new : List Float) (first : ℕ) : Type 0 where
@@ -88,7 +87,7 @@ module _ {plan : List ℕ} {layout : Layout} {poseOf : ℕ → Pose} {old : List
     through-all ok h = let e : first ≡ jointCount plan = omega (arith, joints-found plan (ok .found)) in rw e at (t .so-far)
 
     -- there is room for the block's matrices
-    pub through-room : {numbers : List Float} (count : ℕ) → Playable plan numbers layout → Next layout first count → outputAt (jointCount plan) ≤ length old
+    pub through-room : {numbers : List Float} (count : ℕ) → Playable plan numbers layout → Next layout first count → HasRoom plan old
         → outputAt (first + count) ≤ length new
     through-room count ok n h = omega (arith, joints-found plan (ok .found))
 
@@ -106,9 +105,9 @@ target-below n t start duration target e h = ltb-true _ _ (rw e at h)
 
 -- a state on its way to another that was synchronised
 module _ {plan : List ℕ} {numbers : List Float} {state : StateAt} {target : ℕ} {factor : Float} {parameters : List Float} {targetSlots : List ℕ} {before after : List Float} {r : Blend} where
-  pub ready-towards : {slots : List ℕ} → Playable plan numbers (state .layout) → InPlan plan (state .here) → Slots plan (state .here .state) slots
+  pub ready-towards : {slots : List ℕ} → SlottedState plan numbers state slots
       → TargetSynchronized plan numbers state target factor parameters targetSlots before after r → Ready plan numbers state r slots targetSlots
-  ready-towards ok inside filled t = rw (t .blend) (record { playable = ok; inside = inside; filled = filled; target = t .ready })
+  ready-towards s t = rw (t .blend) (record { playable = s .0; inside = s .1; filled = s .2; target = t .ready })
 
   pub blended-to : {old new : List Float} → TargetSynchronized plan numbers state target factor parameters targetSlots before after r
       → new ≡ skeletonOf plan (λ j. shownPose plan numbers parameters before after j state r) old

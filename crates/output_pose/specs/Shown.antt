@@ -14,7 +14,7 @@ use Rattle.model.specs.Skeleton.{jointMatrices, written}
 use Rattle.layout.specs.declared.Layout.{Layout}
 use Rattle.layout.specs.Layout.{InPlan}
 use Rattle.blend_tree.specs.declared.StateAt.{StateAt}
-use Rattle.blend_tree.specs.Blocks.{Playable, Slots}
+use Rattle.blend_tree.specs.Blocks.{Playable, Slots, statePoseAt}
 use Rattle.output_pose.specs.declared.Blend.{Blend}
 use Rattle.output_pose.specs.declared.Blend.the-variants.{Alone, Towards}
 
@@ -24,15 +24,11 @@ skeletonOf plan poseOf old = written plan (jointMatrices plan poseOf (jointCount
 
 -- ---- a state, blended towards another or not
 
--- joint j's pose in a state at a time
-abbrev pub poseAt : List ℕ → List Float → List Float → List Float → ℕ → StateAt → Pose
-poseAt plan numbers parameters instances j state = statePose plan numbers parameters (state .time) (state .here .state) instances j
-
--- as it is shown: the state's by `current`, the other's by `instances`
+-- joint j's pose as it is shown: the state's by `current`, the other's by `instances`
 unfoldable pub shownPose : List ℕ → List Float → List Float → List Float → List Float → ℕ → StateAt → Blend → Pose
-shownPose plan numbers parameters current instances j state Alone = poseAt plan numbers parameters current j state
+shownPose plan numbers parameters current instances j state Alone = statePoseAt plan numbers parameters state current j
 shownPose plan numbers parameters current instances j state (Towards there factor) =
-    lerp (poseAt plan numbers parameters current j state) (poseAt plan numbers parameters instances j there) factor
+    lerp (statePoseAt plan numbers parameters state current j) (statePoseAt plan numbers parameters there instances j) factor
 
 -- the other is a state of the same plan, with its slots
 unfoldable pub TargetReady : List ℕ → Layout → List ℕ → Blend → Type 0

@@ -1,4 +1,5 @@
-// Steps 2 and 3 of a frame: the state's clips are synchronised, its poses evaluated block by block, and the matrices written.
+// Steps 2 and 3 of a frame: the state's clips are synchronised, its poses evaluated block by block, and the matrices
+// written.
 use animation::instance_at;
 use blend_tree::Joints;
 use blend_tree::SLOTS;
@@ -23,13 +24,13 @@ use skeleton::calculate_root_pose;
 ghost use mathlib.Core.Path.{_≡_};
 ghost use mathlib.Core.Bool.{true};
 ghost use Prim.Native.Nat.{_+_, _<_, _≤_};
-ghost use lib.ListN.{length};
-ghost use Rattle.model.specs.Plan.{jointCount, stateCount, outputAt};
+ghost use Rattle.model.specs.Plan.{stateCount};
 ghost use Rattle.model.specs.Controller.{isTargetBelow, transitionFactor};
-ghost use Rattle.layout.specs.Layout.{InPlan};
 ghost use Rattle.lanes.specs.Lanes.{blockSize};
-ghost use Rattle.blend_tree.specs.Blocks.{Filled, Playable, InBlock, Slots};
-ghost use Rattle.output_pose.specs.Shown.{skeletonOf, shownPose, Ready, JointShown, TargetSynchronized, Blended, Shown};
+ghost use Rattle.blend_tree.specs.Blocks.{FilledFor, Playable, InBlock, PlayableState, SlottedState};
+ghost use Rattle.skeleton.specs.Buffer.{HasRoom};
+ghost use Rattle.output_pose.specs.Shown.{skeletonOf, shownPose, Ready};
+ghost use Rattle.output_pose.specs.Shown.{JointShown, TargetSynchronized, Blended, Shown};
 
 // What becomes of a state's poses: they are shown as they are, or blended by a factor towards those of another state.
 pub enum Blend {
@@ -53,8 +54,15 @@ pub fn shown_poses(
     joints: Joints,
     block: &mut [f32; BLOCK_FLOATS],
 )
-    requires { ⌜ Ready (now plan) (now numbers) state blend (now slots) (now «there_slots») × InBlock (state .layout) joints ⌝ }
-    ensures { λ _. ⌜ Filled (λ i. shownPose (now (plan .entry)) (now (numbers .entry)) (now (parameters .entry)) (now (current .entry)) (now (instances .entry)) (joints .first + i) state blend) (joints .count) (now (block .exit)) ⌝ }
+    requires { ⌜
+        Ready (now plan) (now numbers) state blend (now slots) (now «there_slots»)
+        × InBlock (state .layout) joints
+        ⌝ }
+    ensures { λ _. ⌜
+        FilledFor joints (now (block .exit))
+        (λ j. shownPose (now (plan .entry)) (now (numbers .entry)) (now (parameters .entry))
+        (now (current .entry)) (now (instances .entry)) j state blend)
+        ⌝ }
 {
     state_poses(
         plan,
@@ -107,8 +115,17 @@ fn show_blocks(
     instances: &[f32; MAX_INSTANCES],
     output: &mut [f32],
 )
-    requires { ⌜ Ready (now plan) (now numbers) state blend (now slots) (now «there_slots») × (outputAt (jointCount (now plan)) ≤ length (now output)) ⌝ }
-    ensures { λ _. ⌜ now (output .exit) ≡ skeletonOf (now (plan .entry)) (λ j. shownPose (now (plan .entry)) (now (numbers .entry)) (now (parameters .entry)) (now (current .entry)) (now (instances .entry)) j state blend) (now (output .entry)) ⌝ }
+    requires { ⌜
+        Ready (now plan) (now numbers) state blend (now slots) (now «there_slots»)
+        × HasRoom (now plan) (now output)
+        ⌝ }
+    ensures { λ _. ⌜
+        now (output .exit)
+        ≡ skeletonOf (now (plan .entry))
+        (λ j. shownPose (now (plan .entry)) (now (numbers .entry)) (now (parameters .entry))
+        (now (current .entry)) (now (instances .entry)) j state blend)
+        (now (output .entry))
+        ⌝ }
 {
     let total = state.layout.joints;
     let mut block = [0.0f32; BLOCK_FLOATS];
@@ -141,8 +158,16 @@ pub fn show_joint(
     instances: &[f32; MAX_INSTANCES],
     output: &mut [f32],
 )
-    requires { ⌜ Playable (now plan) (now numbers) (state .layout) × InPlan (now plan) (state .here) × (state .layout .joints ≡ 1) × (state .here .nodes ≡ 1) × (outputAt (jointCount (now plan)) ≤ length (now output)) ⌝ }
-    ensures { λ _. ⌜ JointShown (now (plan .entry)) (now (numbers .entry)) (state .time) (state .here .state) (now (instances .entry)) (now (output .entry)) (now (output .exit)) ⌝ }
+    requires { ⌜
+        PlayableState (now plan) (now numbers) state
+        × (state .layout .joints ≡ 1)
+        × (state .here .nodes ≡ 1)
+        × HasRoom (now plan) (now output)
+        ⌝ }
+    ensures { λ _. ⌜
+        JointShown (now (plan .entry)) (now (numbers .entry)) (state .time) (state .here .state)
+        (now (instances .entry)) (now (output .entry)) (now (output .exit))
+        ⌝ }
 {
     let clip = node_at(plan, state.here, 0).a;
     let instance = instance_at(instances, state.here.clip_node);
@@ -174,7 +199,11 @@ pub fn synchronize_target(
     instances: &mut [f32; MAX_INSTANCES],
 ) -> Blend
     requires { ⌜ Playable (now plan) (now numbers) (state .layout) × (target < stateCount (now plan)) ⌝ }
-    ensures { λ r. ⌜ TargetSynchronized (now (plan .entry)) (now (numbers .entry)) state target factor (now (parameters .entry)) (now («there_slots» .exit)) (now (instances .entry)) (now (instances .exit)) r ⌝ }
+    ensures { λ r. ⌜
+        TargetSynchronized (now (plan .entry)) (now (numbers .entry)) state target factor
+        (now (parameters .entry)) (now («there_slots» .exit))
+        (now (instances .entry)) (now (instances .exit)) r
+        ⌝ }
 {
     let layout = state.layout;
     let here = state_layout(plan, layout, target);
@@ -184,7 +213,8 @@ pub fn synchronize_target(
     Blend::Towards { there, factor }
 }
 
-// A state on its way to another. It shows itself by the instances that it had before the other's rates were set, as the Rust does.
+// A state on its way to another. It shows itself by the instances that it had before the other's rates were set, as
+// the Rust does.
 fn show_transition(
     plan: &[u16],
     numbers: &[f32],
@@ -196,8 +226,16 @@ fn show_transition(
     instances: &mut [f32; MAX_INSTANCES],
     output: &mut [f32],
 )
-    requires { ⌜ Playable (now plan) (now numbers) (state .layout) × InPlan (now plan) (state .here) × Slots (now plan) (state .here .state) (now slots) × (target < stateCount (now plan)) × (outputAt (jointCount (now plan)) ≤ length (now output)) ⌝ }
-    ensures { λ _. ⌜ Blended (now (plan .entry)) (now (numbers .entry)) (state .time) factor (state .here .state) target (now (parameters .entry)) (now (instances .entry)) (now (instances .exit)) (now (output .entry)) (now (output .exit)) ⌝ }
+    requires { ⌜
+        SlottedState (now plan) (now numbers) state (now slots)
+        × (target < stateCount (now plan))
+        × HasRoom (now plan) (now output)
+        ⌝ }
+    ensures { λ _. ⌜
+        Blended (now (plan .entry)) (now (numbers .entry)) (state .time) factor (state .here .state) target
+        (now (parameters .entry)) (now (instances .entry)) (now (instances .exit))
+        (now (output .entry)) (now (output .exit))
+        ⌝ }
 {
     let current = *instances;
     let mut there_slots = [0u8; SLOTS];
@@ -236,8 +274,16 @@ pub fn show(
     instant: f64,
     output: &mut [f32],
 )
-    requires { ⌜ Playable (now plan) (now numbers) (state .layout) × InPlan (now plan) (state .here) × (isTargetBelow (stateCount (now plan)) transition ≡ true) × (outputAt (jointCount (now plan)) ≤ length (now output)) ⌝ }
-    ensures { λ _. ⌜ Shown (now (plan .entry)) (now (numbers .entry)) (state .time) instant (state .here .state) transition (now (parameters .entry)) (now (instances .entry)) (now (instances .exit)) (now (output .entry)) (now (output .exit)) ⌝ }
+    requires { ⌜
+        PlayableState (now plan) (now numbers) state
+        × (isTargetBelow (stateCount (now plan)) transition ≡ true)
+        × HasRoom (now plan) (now output)
+        ⌝ }
+    ensures { λ _. ⌜
+        Shown (now (plan .entry)) (now (numbers .entry)) (state .time) instant (state .here .state) transition
+        (now (parameters .entry)) (now (instances .entry)) (now (instances .exit))
+        (now (output .entry)) (now (output .exit))
+        ⌝ }
 {
     let mut slots = [0u8; SLOTS];
     synchronize_state(plan, numbers, state, parameters, &mut slots, instances);

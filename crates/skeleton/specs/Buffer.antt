@@ -1,5 +1,5 @@
 -- Matrices inside the output buffer: how one is read back, how floats are stored, and what the joints done so far make of the buffer. Definitions only.
-use Prim.Native.Nat.{ℕ, _+_, _<_}
+use Prim.Native.Nat.{ℕ, _+_, _≤_, _<_}
 use mathlib.Core.Path.{_≡_}
 use mathlib.Core.Bool.{cond}
 use mathlib.Core.List.{List, [], _∷_, _++_, map}
@@ -9,9 +9,13 @@ use Rattle.model.specs.declared.Pose.{Pose}
 use Rattle.model.specs.declared.Row.{Row}
 use Rattle.model.specs.declared.Matrix4.{Matrix4}
 use Rattle.model.specs.Rotations.{row, identityMatrix}
-use Rattle.model.specs.Plan.{parent, isRoot, outputAt}
+use Rattle.model.specs.Plan.{jointCount, parent, isRoot, outputAt}
 use Rattle.model.specs.Skeleton.{jointMatrices, pageMatrix, flat}
 use Rattle.lanes.specs.Lanes.{laneAt}
+
+-- there is room for the matrices of all joints
+abbrev pub HasRoom : List ℕ → List Float → Type 0
+HasRoom plan output = outputAt (jointCount plan) ≤ length output
 
 -- the row and the matrix that a list begins with
 unfoldable pub rowFrom : List Float → Row

@@ -11,7 +11,7 @@ unfolding TargetReady
 show-blocks-requires c κs =
     let y = c .before .before .before .before .before .before in
     let p = y .before .before .before .before .before .before .pre in
-    (record { playable = p .0; inside = p .1; filled = y .synchronize-state .ensures .0; target = tt }, p .3)
+    (record { playable = p .0 .0; inside = p .0 .1; filled = y .synchronize-state .ensures .0; target = tt }, p .2)
 
 returns : tie.Need-returns
 unfolding shownPose
@@ -25,7 +25,7 @@ show-transition-requires c κs =
     let t = c .before .before .before .before .before in
     let y = t .before .before in
     let p = y .before .before .before .before .before .before .pre in
-    (p .0, p .1, y .synchronize-state .ensures .0, target-below _ _ _ _ _ (t .transition .given .1) (p .2), p .3)
+    ((p .0 .0, p .0 .1, y .synchronize-state .ensures .0), target-below _ _ _ _ _ (t .transition .given .1) (p .1), p .2)
 
 returns-2 : tie.Need-returns-2
 returns-2 c =

@@ -18,35 +18,35 @@ abbrev start : tie.After-node-at → tie.Start
 start n = n .before .before .before .before
 
 one-joint : (n : tie.After-node-at) → jointCount (start n .args .plan .now) ≡ 1
-one-joint n = let p = start n .pre in sym (joints-found _ (p .0 .found)) ∙ p .2
+one-joint n = let p = start n .pre in sym (joints-found _ (p .0 .0 .found)) ∙ p .1
 
 clip-there : (n : tie.After-node-at) → n .node-at .result .a < clipCount (start n .args .plan .now)
 clip-there n =
     let p = start n .pre in
-    clip-inside {here = start n .args .state .here} (record { passes = passes (p .0); state = p .1; below = omega (arith, p .3); found = n .node-at .ensures }) (only-clip (p .0) (p .1) (p .3))
+    clip-inside {here = start n .args .state .here} (record { passes = passes (p .0 .0); state = p .0 .1; below = omega (arith, p .2); found = n .node-at .ensures }) (only-clip (p .0 .0) (p .0 .1) (p .2))
 
 instance-at-requires : tie.Need-instance-at-requires
-instance-at-requires c κs = let p = start c .pre in instance-there (p .0) (p .1) (p .3)
+instance-at-requires c κs = let p = start c .pre in instance-there (p .0 .0) (p .0 .1) (p .2)
 
 clip-at-requires : tie.Need-clip-at-requires
-clip-at-requires c κs = (start (c .before) .pre .0, clip-there (c .before))
+clip-at-requires c κs = (start (c .before) .pre .0 .0, clip-there (c .before))
 
 clip-samples-requires : tie.Need-clip-samples-requires
 clip-samples-requires c κs =
     let n = c .before .before in
-    clip-sized (start n .pre .0) (clip-there n) (c .clip-at .ensures)
+    clip-sized (start n .pre .0 .0) (clip-there n) (c .clip-at .ensures)
 
 joint-pose-requires : tie.Need-joint-pose-requires
 joint-pose-requires c κs =
     let k = c .before in
     let n = k .before .before in
     let p = start n .pre in
-    (sampled (p .0) (clip-there n) _ (k .clip-at .ensures) (c .clip-samples .ensures), omega (arith, p .2))
+    (sampled (p .0 .0) (clip-there n) _ (k .clip-at .ensures) (c .clip-samples .ensures), omega (arith, p .1))
 
 calculate-root-pose-requires : tie.Need-calculate-root-pose-requires
 calculate-root-pose-requires c κs =
     let n = c .before .before .before .before .before in
-    omega (arith, one-joint n, start n .pre .4)
+    omega (arith, one-joint n, start n .pre .3)
 
 -- the pose, whatever the parameters are
 shown : (c : tie.After-joint-pose)
@@ -57,7 +57,7 @@ shown c parameters =
     let k = p .before in
     let n = k .before .before in
     let r = start n .pre in
-    c .joint-pose .ensures ∙ only-pose (r .0) (r .1) (r .3) (n .node-at .ensures) _ _ (k .before .instance-at .ensures) (k .clip-at .ensures) (p .clip-samples .ensures) parameters 0
+    c .joint-pose .ensures ∙ only-pose (r .0 .0) (r .0 .1) (r .2) (n .node-at .ensures) _ _ (k .before .instance-at .ensures) (k .clip-at .ensures) (p .clip-samples .ensures) parameters 0
 
 returns : tie.Need-returns
 returns c =

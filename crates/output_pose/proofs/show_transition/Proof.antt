@@ -8,7 +8,7 @@ show-blocks-requires : tie.Need-show-blocks-requires
 show-blocks-requires c κs =
     let y = c .before .before .before .before in
     let p = y .before .before .before .before .before .before .before .pre in
-    (ready-towards (p .0) (p .1) (p .2) (y .synchronize-target .ensures), p .4)
+    (ready-towards (p .0) (y .synchronize-target .ensures), p .2)
 
 returns : tie.Need-returns
 returns c =

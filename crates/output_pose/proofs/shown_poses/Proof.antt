@@ -9,7 +9,7 @@ use Rattle.output_pose.proofs.shown_poses.Tie as tie
 state-poses-requires : tie.Need-state-poses-requires
 state-poses-requires c κs =
     let p = c .before .before .before .pre in
-    (p .0 .playable, p .0 .inside, p .0 .filled, p .1)
+    ((p .0 .playable, p .0 .inside, p .0 .filled), p .1)
 
 returns : tie.Need-returns
 returns c i h =
