@@ -1,13 +1,11 @@
 // Replays lists of calls, as many as standard input has, and prints what `replay` would print for each.
 // README.md has the format; oracle/compare records lists and the expected reports.
 use calls::MAX_LIST;
-use fields::Field;
-use fields::read_field;
-use libc::STDIN_FILENO;
 use libc::STDOUT_FILENO;
-use model::FieldForm;
 use model::limits::MAX_TEXT;
 use replay_print::print_replay;
+use test_io::read_front;
+use test_io::size_at;
 ghost use Prim.Native.Nat.{_≤_};
 ghost use lib.ListN.{length};
 
@@ -16,36 +14,15 @@ const HEADER_SIZE: usize = 23;
 // A figure may be a byte too long.
 const FIGURE_SIZE: usize = MAX_TEXT + 1;
 
-// The number of bytes that a header names from `at` on; more than any case has where it names none.
-fn size_at(header: [u8; HEADER_SIZE], at: usize) -> usize {
-    let field = read_field(&header, at, FieldForm::Bits);
-    match field {
-        Field::Value { value, end: _ } => value,
-        Field::Nothing => 0x1_0000_0000,
-    }
-}
-
-// Reads `size` bytes into the front of `text`; false where the input ends before.
-fn read_front(text: &mut [u8], size: usize) -> bool
-    requires { ⌜ size ≤ length (now text) ⌝ }
-{
-    io::read_full(STDIN_FILENO, &mut text[..size]) == size
-}
-
 fn print_case(figure: &[u8], figure_size: usize, calls: &[u8], calls_size: usize) -> bool
     requires { ⌜ («figure_size» ≤ length (now figure)) × («calls_size» ≤ length (now calls)) ⌝ }
 {
     print_replay(&figure[..figure_size], &calls[..calls_size])
 }
 
-// False at the end of the input, and at a case that is cut off or too long.
-fn run_case() -> bool {
-    let mut header = [0u8; HEADER_SIZE];
-    if io::read_full(STDIN_FILENO, &mut header) != HEADER_SIZE {
-        return false;
-    }
-    let figure_size = size_at(header, 5);
-    let calls_size = size_at(header, 14);
+fn run_list(header: [u8; HEADER_SIZE]) -> bool {
+    let figure_size = size_at(&header, 5);
+    let calls_size = size_at(&header, 14);
     if FIGURE_SIZE < figure_size {
         return false;
     }
@@ -62,6 +39,15 @@ fn run_case() -> bool {
     }
     io::write_all(STDOUT_FILENO, &header);
     print_case(&figure, figure_size, &calls, calls_size)
+}
+
+// False at the end of the input, and at a case that is cut off or too long.
+fn run_case() -> bool {
+    let mut header = [0u8; HEADER_SIZE];
+    if !read_front(&mut header, HEADER_SIZE) {
+        return false;
+    }
+    run_list(header)
 }
 
 // A proved loop has to end, and nothing says that the input does.

@@ -3,14 +3,13 @@
 mod damage;
 
 use damage::print_damaged;
-use fields::Field;
-use fields::read_field;
-use libc::STDIN_FILENO;
 use libc::STDOUT_FILENO;
-use model::FieldForm;
 use model::limits::MAX_TEXT;
 use printing::MAX_PRINTED;
 use program::answer;
+use test_io::read_front;
+use test_io::size_at;
+use test_io::write_front;
 ghost use Prim.Native.Nat.{_≤_};
 ghost use lib.ListN.{length};
 
@@ -25,28 +24,6 @@ const TEXT_SIZE: usize = MAX_TEXT + 1;
 // The longest text that is damaged.
 const MAX_DAMAGED: usize = 1024;
 
-// The number of bytes that a header names from `at` on; more than any case has where it names none.
-fn size_at(header: [u8; HEADER_SIZE], at: usize) -> usize {
-    let field = read_field(&header, at, FieldForm::Bits);
-    match field {
-        Field::Value { value, end: _ } => value,
-        Field::Nothing => 0x1_0000_0000,
-    }
-}
-
-// Reads `size` bytes into the front of `text`; false where the input ends before.
-fn read_front(text: &mut [u8], size: usize) -> bool
-    requires { ⌜ size ≤ length (now text) ⌝ }
-{
-    io::read_full(STDIN_FILENO, &mut text[..size]) == size
-}
-
-fn write_front(bytes: &[u8], size: usize)
-    requires { ⌜ size ≤ length (now bytes) ⌝ }
-{
-    io::write_all(STDOUT_FILENO, &bytes[..size]);
-}
-
 fn print_answer(text: &[u8], size: usize)
     requires { ⌜ size ≤ length (now text) ⌝ }
 {
@@ -56,7 +33,7 @@ fn print_answer(text: &[u8], size: usize)
 }
 
 fn run_text(header: [u8; HEADER_SIZE]) -> bool {
-    let size = size_at(header, 5);
+    let size = size_at(&header, 5);
     if TEXT_SIZE < size {
         return false;
     }
@@ -70,7 +47,7 @@ fn run_text(header: [u8; HEADER_SIZE]) -> bool {
 }
 
 fn run_damage(header: [u8; HEADER_SIZE]) -> bool {
-    let size = size_at(header, 7);
+    let size = size_at(&header, 7);
     if MAX_DAMAGED < size {
         return false;
     }
@@ -86,14 +63,14 @@ fn run_damage(header: [u8; HEADER_SIZE]) -> bool {
 // False at the end of the input, and at a case that is cut off or has no size.
 fn run_case() -> bool {
     let mut header = [0u8; HEADER_SIZE];
-    if io::read_full(STDIN_FILENO, &mut header[..SHORT_HEADER_SIZE]) != SHORT_HEADER_SIZE {
+    if !read_front(&mut header, SHORT_HEADER_SIZE) {
         return false;
     }
     if header[0] != b'd' {
         return run_text(header);
     }
     let mut rest = [0u8; 2];
-    if io::read_full(STDIN_FILENO, &mut rest) != 2 {
+    if !read_front(&mut rest, 2) {
         return false;
     }
     header[SHORT_HEADER_SIZE] = rest[0];

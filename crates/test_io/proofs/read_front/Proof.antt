@@ -1,8 +1,8 @@
 use mathlib.Core.Path.{sym}
 use lib.Seq.{length-take-le}
 use borrow.Author.Needs.{needs}
-use Rattle.recorded_lists.proofs.read_front.Statement.{statement}
-use Rattle.recorded_lists.proofs.read_front.Tie as tie
+use Rattle.test_io.proofs.read_front.Statement.{statement}
+use Rattle.test_io.proofs.read_front.Tie as tie
 
 slice-aggregate-read-full : tie.Need-slice-aggregate-read-full
 slice-aggregate-read-full c = sym (length-take-le _ _ (search needs))
