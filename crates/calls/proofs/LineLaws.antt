@@ -23,11 +23,11 @@ use Rattle.fields.specs.Found.{found}
 use Rattle.fields.specs.Wide.{wideBitsIn}
 use Rattle.fields.proofs.Bytes.{there, front-at}
 use Rattle.calls.specs.declared.Call.{Call}
-use Rattle.calls.specs.declared.Call.the-variants.{Malformed}
+use Rattle.calls.specs.declared.Call.the-variants.{Malformed, Update, Speed, Set, Frame}
 use Rattle.calls.specs.declared.CallAt.{CallAt}
 use Rattle.calls.specs.CallText.{updateName, speedName, setName, frameName, pageName, CallLine, malformed, line}
 use Rattle.calls.specs.CallText.{behindComma, fieldThen, wideField, bitsField, decimalField, lineEnd, timeLine, setLine, frameLine, callIn}
-use Rattle.calls.specs.Read.{timedCall, timeOf, behind, lineOf, lineEndOf, lineRead}
+use Rattle.calls.specs.Read.{timedCall, timeOf, behind, lineOf, lineEndOf, isMalformed, lineRead, asCall, noCall, lineAt, callAt, CallRead}
 
 -- ---- fields
 
@@ -75,6 +75,22 @@ field-read form = comma-read (fieldIn form) (nothing-read form)
 
 -- ---- lines
 
+abbrev placed : Call → ℕ → CallAt
+placed call end = record { call = call; end = end }
+
+abbrev call-of : CallAt → Call
+call-of r = r .call
+
+abbrev end-of : CallAt → ℕ
+end-of r = r .end
+
+pub timed-well : (isSpeed : Bool) (x : Float) → isMalformed (timedCall isSpeed x) ≡ false
+timed-well true x = refl
+timed-well false x = refl
+
+pub never : true ≡ false → ⊥
+never e = let z : _≡_ {A = ℕ} 0 1 = cc in omega arith
+
 -- the program's call for a time is the text's
 pub timed-is : (isSpeed : Bool) (x : Float) (rest : List ℕ) → lineOf (timedCall isSpeed x) rest ≡ line (timeOf isSpeed x) rest
 unfolding lineOf
@@ -84,6 +100,29 @@ timed-is false x rest = refl
 pub malformed-read : (text : List ℕ) (r : CallAt) → r .call ≡ Malformed → lineRead text r ≡ malformed
 unfolding lineRead lineOf
 malformed-read text r e = rw e
+
+module _ {text : List ℕ} {l : CallLine} {r : CallAt} where
+  pub none-read : r ≡ noCall → malformed ≡ l → CallRead text l r
+  none-read e m =
+      record { reading = malformed-read text r (ap call-of e) ∙ m; inside = omega (arith, ap end-of e); nowhere = λ h. ap end-of e }
+
+  pub same-read : {m : CallLine} → CallRead text l r → l ≡ m → CallRead text m r
+  same-read c e = record { reading = c .reading ∙ e; inside = c .inside; nowhere = c .nowhere }
+
+-- what is read of a line is the call at its place
+module _ (text : List ℕ) where
+  there-and-back : (call : Call) (end : ℕ) → end ≤ length text → (isMalformed call ≡ true → end ≡ 0)
+      → _≡_ {A = CallAt} (record { call = call; end = end }) (lineAt text (lineOf call (drop end text)))
+  unfolding lineAt lineOf asCall
+  there-and-back Malformed end inside nowhere = ap (placed Malformed) (nowhere refl)
+  there-and-back (Update delta) end inside nowhere = ap (placed (Update delta)) (omega (arith, length-drop end text))
+  there-and-back (Speed value) end inside nowhere = ap (placed (Speed value)) (omega (arith, length-drop end text))
+  there-and-back (Set n v) end inside nowhere = ap (placed (Set n v)) (omega (arith, length-drop end text))
+  there-and-back (Frame kind ext n) end inside nowhere = ap (placed (Frame kind ext n)) (omega (arith, length-drop end text))
+
+  pub call-there : (at : ℕ) {r : CallAt} → CallRead text (callIn (drop at text)) r → (r ≡ callAt text at) × (lineRead text r ≡ callIn (drop at text))
+  unfolding lineRead
+  call-there at {r} c = (there-and-back (r .call) (r .end) (c .inside) (c .nowhere) ∙ ap (lineAt text) (c .reading), c .reading)
 
 -- the field of a line was read to f, and `more` follows
 module _ (text : List ℕ) {f : Field} {s : Text.Field} (read : found text f ≡ s) (more : ℕ → List ℕ → CallLine) where

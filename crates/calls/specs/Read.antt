@@ -1,8 +1,9 @@
 -- What the reader's struct and enum say of a text. Definitions only.
-use Prim.Native.Nat.{ℕ}
+use Prim.Native.Nat.{ℕ, _-_, _≤_}
+use mathlib.Core.Path.{_≡_}
 use mathlib.Core.Bool.{Bool, true, false, cond}
 use mathlib.Core.List.{List, []}
-use lib.ListN.{drop}
+use lib.ListN.{length, drop}
 use lib.Dec.{eqb}
 use lib.Ieee.{Float}
 use Rattle.model.specs.Text.{front, comma, lineFeed}
@@ -10,7 +11,7 @@ use Rattle.model.specs.Run as Run
 use Rattle.calls.specs.declared.Call.{Call}
 use Rattle.calls.specs.declared.Call.the-variants.{Malformed, Update, Speed, Set, Frame}
 use Rattle.calls.specs.declared.CallAt.{CallAt}
-use Rattle.calls.specs.CallText.{CallLine, malformed, line, CallList, badLine, calls}
+use Rattle.calls.specs.CallText.{CallLine, malformed, line, callIn, CallList, badLine, calls}
 
 unfoldable pub lineOf : Call → List ℕ → CallLine
 lineOf Malformed rest = malformed
@@ -43,6 +44,30 @@ isMalformed (Frame kind ext length) = false
 
 unfoldable pub lineRead : List ℕ → CallAt → CallLine
 lineRead text r = lineOf (r .call) (drop (r .end) text)
+
+-- ---- the call at a place of a text, and the place behind its line; 0 where the line is malformed
+
+unfoldable pub asCall : Run.Call → Call
+asCall (Run.Update delta) = Update delta
+asCall (Run.Speed value) = Speed value
+asCall (Run.Set parameter value) = Set parameter value
+asCall (Run.Frame kind ext length) = Frame kind ext length
+
+abbrev pub noCall : CallAt
+noCall = record { call = Malformed; end = 0 }
+
+unfoldable pub lineAt : List ℕ → CallLine → CallAt
+lineAt text malformed = noCall
+lineAt text (line c rest) = record { call = asCall c; end = length text - length rest }
+
+abbrev pub callAt : List ℕ → ℕ → CallAt
+callAt text at = lineAt text (callIn (drop at text))
+
+-- what was read is this line of the text, no more and no less
+pub record CallRead (text : List ℕ) (l : CallLine) (r : CallAt) : Type 0 where
+  pub reading : lineRead text r ≡ l
+  pub inside : r .end ≤ length text
+  pub nowhere : isMalformed (r .call) ≡ true → r .end ≡ 0
 
 -- the number of the first malformed line; 0 where there is none
 unfoldable pub firstMalformed : CallList → ℕ

@@ -13,8 +13,9 @@ ghost use mathlib.Core.Path.{_≡_};
 ghost use Prim.Native.Nat.{_≤_};
 ghost use lib.ListN.{length, drop};
 ghost use Rattle.calls.specs.CallText.{timeLine, setLine, frameLine, callIn, readCalls, lineCount, callList};
-ghost use Rattle.calls.specs.Read.{timedCall, timeOf, behind, isMalformed, lineEndOf, lineRead, firstMalformed};
-ghost use Rattle.calls.specs.declared.Call.the-variants as Call;
+ghost use mathlib.Core.Bool.{false};
+ghost use Rattle.calls.specs.Read.{timedCall, timeOf, behind, isMalformed, lineEndOf, lineRead, noCall, callAt};
+ghost use Rattle.calls.specs.Read.{CallRead, firstMalformed};
 
 // The longest list that programs read.
 pub const MAX_LIST: usize = 262_144;
@@ -85,7 +86,7 @@ fn is_malformed(call: Call) -> bool
 }
 
 fn malformed() -> CallAt
-    ensures { λ r. ⌜ r .call ≡ Call.Malformed ⌝ }
+    ensures { λ r. ⌜ r ≡ noCall ⌝ }
 {
     CallAt {
         call: Call::Malformed,
@@ -95,7 +96,8 @@ fn malformed() -> CallAt
 
 // A call, if its line ends at `at`.
 fn line_end(text: &[u8], at: usize, call: Call) -> CallAt
-    ensures { λ r. ⌜ lineRead (now (text .entry)) r ≡ lineEndOf call (drop at (now (text .entry))) ⌝ }
+    requires { ⌜ isMalformed call ≡ false ⌝ }
+    ensures { λ r. ⌜ CallRead (now (text .entry)) (lineEndOf call (drop at (now (text .entry)))) r ⌝ }
 {
     if byte(text, at) != b'\n' {
         return malformed();
@@ -117,7 +119,7 @@ fn timed(is_speed: bool, x: f64) -> Call
 
 // Update or speed.
 fn time_line(text: &[u8], at: usize, is_speed: bool) -> CallAt
-    ensures { λ r. ⌜ lineRead (now (text .entry)) r ≡ timeLine (timeOf «is_speed») (drop at (now (text .entry))) ⌝ }
+    ensures { λ r. ⌜ CallRead (now (text .entry)) (timeLine (timeOf «is_speed») (drop at (now (text .entry)))) r ⌝ }
 {
     let time = read_wide_bits(text, behind_comma(text, at));
     let Field::Value { value, end } = time else {
@@ -127,7 +129,7 @@ fn time_line(text: &[u8], at: usize, is_speed: bool) -> CallAt
 }
 
 fn set_line(text: &[u8], at: usize) -> CallAt
-    ensures { λ r. ⌜ lineRead (now (text .entry)) r ≡ setLine (drop at (now (text .entry))) ⌝ }
+    ensures { λ r. ⌜ CallRead (now (text .entry)) (setLine (drop at (now (text .entry)))) r ⌝ }
 {
     let number = read_field(
         text,
@@ -155,7 +157,7 @@ fn set_line(text: &[u8], at: usize) -> CallAt
 }
 
 fn frame_line(text: &[u8], at: usize, kind: FrameKind) -> CallAt
-    ensures { λ r. ⌜ lineRead (now (text .entry)) r ≡ frameLine kind (drop at (now (text .entry))) ⌝ }
+    ensures { λ r. ⌜ CallRead (now (text .entry)) (frameLine kind (drop at (now (text .entry)))) r ⌝ }
 {
     let ext = read_wide_bits(text, behind_comma(text, at));
     let Field::Value { value, end } = ext else {
@@ -185,6 +187,7 @@ fn frame_line(text: &[u8], at: usize, kind: FrameKind) -> CallAt
 
 // The call in the line that begins at `at`.
 pub fn call_at(text: &[u8], at: usize) -> CallAt
+    ensures { λ r. ⌜ r ≡ callAt (now (text .entry)) at ⌝ }
     ensures { λ r. ⌜ lineRead (now (text .entry)) r ≡ callIn (drop at (now (text .entry))) ⌝ }
 {
     let update = name_at(text, at, b"update");
@@ -248,10 +251,7 @@ fn first_malformed(text: &[u8], lines: usize) -> usize
 }
 
 pub fn check_calls(text: &[u8]) -> ListChecked
-    ensures { λ r. ⌜
-        (r .lines ≡ lineCount (now (text .entry)))
-        × (r .malformed ≡ firstMalformed (callList (now (text .entry))))
-        ⌝ }
+    ensures { λ r. ⌜ (r .lines ≡ lineCount (now (text .entry))) × (r .malformed ≡ firstMalformed (callList (now (text .entry)))) ⌝ }
 {
     let lines = line_count(text);
     ListChecked {

@@ -17,13 +17,13 @@ returns : tie.Need-returns Inv-loop μ-loop
 returns c =
     let h = c .before .before in
     let l = h .before in
-    line-bad (l .before .loop .inv) (l .loop-test .taken) _ (h .call-at .ensures) (sym (c .before .is-malformed .ensures) ∙ c .if1 .taken)
+    line-bad (l .before .loop .inv) (l .loop-test .taken) _ (h .call-at .ensures .1) (sym (c .before .is-malformed .ensures) ∙ c .if1 .taken)
 
 loop-again : tie.Need-loop-again Inv-loop μ-loop
 loop-again c =
     let h = c .before .before in
     let l = h .before in
-    line-passed (l .before .loop .inv) (l .loop-test .taken) _ (h .call-at .ensures) (sym (c .before .is-malformed .ensures) ∙ c .if1 .left)
+    line-passed (l .before .loop .inv) (l .loop-test .taken) _ (h .call-at .ensures .1) (sym (c .before .is-malformed .ensures) ∙ c .if1 .left)
 
 returns-2 : tie.Need-returns-2 Inv-loop μ-loop
 returns-2 c = text-left (c .before .before .loop .inv) (c .before .loop-test .left) (c .if2 .taken)

@@ -1,6 +1,6 @@
 -- `calls::frame_line` meets its contract. Assumes nothing.
 use borrow.Author.Needs.{needs}
-use mathlib.Core.Path.{_≡_, ap, _∙_}
+use mathlib.Core.Path.{_≡_, refl, ap, _∙_}
 use lib.ListN.{drop}
 use Rattle.model.specs.declared.FieldForm.the-variants.{Decimal}
 use Rattle.model.specs.Text.{maxWord}
@@ -8,7 +8,7 @@ use Rattle.model.specs.Run as Run
 use Rattle.fields.specs.Found.{found}
 use Rattle.calls.specs.CallText.{line, wideField, decimalField, frameLine}
 use Rattle.calls.specs.Read.{lineOf}
-use Rattle.calls.proofs.LineLaws.{wide-read, field-read, malformed-read, without, with-value, ends}
+use Rattle.calls.proofs.LineLaws.{wide-read, field-read, none-read, same-read, without, with-value, ends}
 use Rattle.calls.proofs.frame_line.Statement.{statement}
 use Rattle.calls.proofs.frame_line.Tie as tie
 
@@ -28,15 +28,15 @@ count c =
 
 returns : tie.Need-returns
 unfolding frameLine
-returns c = malformed-read _ _ (c .malformed .ensures) ∙ without _ (ext (c .before .before .before)) _ (c .before .enum-told .given .1)
+returns c = none-read (c .malformed .ensures) (without _ (ext (c .before .before .before)) _ (c .before .enum-told .given .1))
 
 returns-2 : tie.Need-returns-2
 unfolding frameLine
 returns-2 c =
     let l = c .before .before .before in
     let x = l .before .before .before in
-    malformed-read _ _ (c .malformed2 .ensures) ∙ without _ (count l) _ (c .before .enum-told2 .given .1)
-    ∙ with-value _ (ext (x .before .before)) _ (x .ext .given .1)
+    none-read (c .malformed2 .ensures)
+    (without _ (count l) _ (c .before .enum-told2 .given .1) ∙ with-value _ (ext (x .before .before)) _ (x .ext .given .1))
 
 returns-3 : tie.Need-returns-3
 unfolding frameLine lineOf
@@ -45,8 +45,9 @@ returns-3 c =
     let l = n .before .before in
     let x = l .before .before .before in
     let kind = x .before .before .before .before .before .args .kind in
-    c .line-end .ensures ∙ ends _ (λ rest. ap (λ d. line (Run.Frame kind d (n .length .given .0 .0)) rest) (c .before .f64-from-bits .ensures)) _
-    ∙ with-value _ (count l) _ (n .length .given .1) ∙ with-value _ (ext (x .before .before)) _ (x .ext .given .1)
+    same-read (c .line-end .ensures)
+    (ends _ (λ rest. ap (λ d. line (Run.Frame kind d (n .length .given .0 .0)) rest) (c .before .f64-from-bits .ensures)) _
+    ∙ with-value _ (count l) _ (n .length .given .1) ∙ with-value _ (ext (x .before .before)) _ (x .ext .given .1))
 
 pub frame-line-spec : {M : Type 1} → statement M
 frame-line-spec =

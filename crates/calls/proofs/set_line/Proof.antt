@@ -1,7 +1,7 @@
 -- `calls::set_line` meets its contract. Assumes nothing.
 use borrow.Author.Needs.{needs}
 use native.Mathlib.Omega.{arith}
-use mathlib.Core.Path.{_≡_, ap, _∙_}
+use mathlib.Core.Path.{_≡_, refl, ap, _∙_}
 use lib.ListN.{drop}
 use Rattle.model.specs.declared.FieldForm.the-variants.{Decimal, Bits}
 use Rattle.model.specs.Text.{maxWord}
@@ -9,7 +9,7 @@ use Rattle.model.specs.Run as Run
 use Rattle.fields.specs.Found.{found}
 use Rattle.calls.specs.CallText.{line, decimalField, bitsField, setLine}
 use Rattle.calls.specs.Read.{lineOf}
-use Rattle.calls.proofs.LineLaws.{field-read, malformed-read, without, with-value, ends, bits-fit}
+use Rattle.calls.proofs.LineLaws.{field-read, none-read, same-read, without, with-value, ends, bits-fit}
 use Rattle.calls.proofs.set_line.Statement.{statement}
 use Rattle.calls.proofs.set_line.Tie as tie
 
@@ -29,15 +29,15 @@ bits c =
 
 returns : tie.Need-returns
 unfolding setLine
-returns c = malformed-read _ _ (c .malformed .ensures) ∙ without _ (number (c .before .before .before)) _ (c .before .enum-told .given .1)
+returns c = none-read (c .malformed .ensures) (without _ (number (c .before .before .before)) _ (c .before .enum-told .given .1))
 
 returns-2 : tie.Need-returns-2
 unfolding setLine
 returns-2 c =
     let b = c .before .before .before in
     let n = b .before .before .before in
-    malformed-read _ _ (c .malformed2 .ensures) ∙ without _ (bits b) _ (c .before .enum-told2 .given .1)
-    ∙ with-value _ (number (n .before .before)) _ (n .number .given .1)
+    none-read (c .malformed2 .ensures)
+    (without _ (bits b) _ (c .before .enum-told2 .given .1) ∙ with-value _ (number (n .before .before)) _ (n .number .given .1))
 
 cast-f32-from-bits : tie.Need-cast-f32-from-bits
 cast-f32-from-bits c =
@@ -50,8 +50,9 @@ returns-3 c =
     let v = c .before .before .before in
     let b = v .before .before in
     let n = b .before .before .before in
-    c .line-end .ensures ∙ ends _ (λ rest. ap (λ x. line (Run.Set (n .number .given .0 .0) x) rest) (c .before .f32-from-bits .ensures)) _
-    ∙ with-value _ (bits b) _ (v .bits .given .1) ∙ with-value _ (number (n .before .before)) _ (n .number .given .1)
+    same-read (c .line-end .ensures)
+    (ends _ (λ rest. ap (λ x. line (Run.Set (n .number .given .0 .0) x) rest) (c .before .f32-from-bits .ensures)) _
+    ∙ with-value _ (bits b) _ (v .bits .given .1) ∙ with-value _ (number (n .before .before)) _ (n .number .given .1))
 
 pub set-line-spec : {M : Type 1} → statement M
 set-line-spec =

@@ -34,7 +34,7 @@ loop-again c =
     let l = d .before .before .before .before .before .loop in (
       d .call-done .ensures .1,
       search needs,
-      next-performed _ _ _ _ _ _ (l .inv .2) (omega arith) (omega arith) (d .before .before .call-at .ensures) (d .call-done .ensures .0) (w .put-call .ensures .0) (w .put-call .ensures .1),
+      next-performed _ _ _ _ _ _ (l .inv .2) (omega arith) (omega arith) (d .before .before .call-at .ensures .1) (d .call-done .ensures .0) (w .put-call .ensures .0) (w .put-call .ensures .1),
     )
 
 returns : tie.Need-returns Inv-loop μ-loop
