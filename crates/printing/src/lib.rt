@@ -1,4 +1,5 @@
-// What programs print, put into a slice of bytes from a place on: fields, a refusal, a line for each joint. Each function returns the place behind what it put.
+// What programs print, put into a slice of bytes from a place on: fields, a refusal, a line for each joint.
+// Each function returns the place behind what it put.
 use float::f32_to_bits;
 use model::Refusal;
 use model::limits::MATRIX_FLOATS;
@@ -13,7 +14,7 @@ ghost use lib.Ieee.{binary32, toBits};
 ghost use Rattle.model.specs.Text.{comma};
 ghost use Rattle.model.specs.Plan.{maxJoints, outputAt};
 ghost use Rattle.model.specs.Program.{glyph, digits, places, decimalFields, refusedLine, jointLine, numberBytes};
-ghost use Rattle.printing.specs.Written.{Written, floatFields, matrixIn, jointLines};
+ghost use Rattle.printing.specs.Written.{Written, WrittenUpTo, WrittenExactly, floatFields, matrixIn, jointLines};
 ghost use Rattle.printing.specs.Sizes.{maxDigits, decimalSize, refusalSize, jointSize};
 
 // Digits of a float's bits, of any number, and of an index of joints or clip nodes.
@@ -91,7 +92,7 @@ pub fn put_field(out: &mut [u8], at: usize, base: usize, count: usize, n: usize)
 
 pub fn put_decimal(out: &mut [u8], at: usize, n: usize) -> usize
     requires { ⌜ at + decimalSize ≤ length (now out) ⌝ }
-    ensures { λ r. ⌜ Written (now (out .entry)) at (decimalFields (n ∷ [])) (now (out .exit)) r × (r ≤ at + decimalSize) ⌝ }
+    ensures { λ r. ⌜ WrittenUpTo decimalSize (now (out .entry)) at (decimalFields (n ∷ [])) (now (out .exit)) r ⌝ }
 {
     put_field(out, at, 10, places(n), n)
 }
@@ -105,14 +106,17 @@ fn bits(x: f32) -> usize
 // A comma, and the bits of x.
 pub fn put_bits(out: &mut [u8], at: usize, x: f32) -> usize
     requires { ⌜ at + numberBytes ≤ length (now out) ⌝ }
-    ensures { λ r. ⌜ Written (now (out .entry)) at (floatFields (x ∷ [])) (now (out .exit)) r × (r ≡ at + numberBytes) ⌝ }
+    ensures { λ r. ⌜ WrittenExactly numberBytes (now (out .entry)) at (floatFields (x ∷ [])) (now (out .exit)) r ⌝ }
 {
     put_field(out, at, 16, FLOAT_DIGITS, bits(x))
 }
 
 pub fn put_floats(out: &mut [u8], at: usize, floats: &[f32]) -> usize
     requires { ⌜ at + numberBytes * length (now floats) ≤ length (now out) ⌝ }
-    ensures { λ r. ⌜ Written (now (out .entry)) at (floatFields (now (floats .entry))) (now (out .exit)) r × (r ≡ at + numberBytes * length (now (floats .entry))) ⌝ }
+    ensures { λ r. ⌜
+        WrittenExactly (numberBytes * length (now (floats .entry)))
+        (now (out .entry)) at (floatFields (now (floats .entry))) (now (out .exit)) r
+        ⌝ }
 {
     let mut behind = at;
     let mut k = 0;
@@ -125,7 +129,9 @@ pub fn put_floats(out: &mut [u8], at: usize, floats: &[f32]) -> usize
 
 pub fn put_refusal(out: &mut [u8], at: usize, refusal: Refusal) -> usize
     requires { ⌜ at + refusalSize ≤ length (now out) ⌝ }
-    ensures { λ r. ⌜ Written (now (out .entry)) at (refusedLine (refusal .number) (refusal .place)) (now (out .exit)) r × (r ≤ at + refusalSize) ⌝ }
+    ensures { λ r. ⌜
+        WrittenUpTo refusalSize (now (out .entry)) at (refusedLine (refusal .number) (refusal .place)) (now (out .exit)) r
+        ⌝ }
 {
     let behind_name = put_bytes(out, at, b"refused");
     let behind_number = put_decimal(out, behind_name, refusal.number);
@@ -136,8 +142,14 @@ pub fn put_refusal(out: &mut [u8], at: usize, refusal: Refusal) -> usize
 
 // Joint j's line, for its matrix in an output.
 fn put_joint(out: &mut [u8], at: usize, j: usize, output: &[f32]) -> usize
-    requires { ⌜ (j < maxJoints) × (at + jointSize ≤ length (now out)) × (outputAt (j + 1) ≤ length (now output)) ⌝ }
-    ensures { λ r. ⌜ Written (now (out .entry)) at (jointLine j (matrixIn (now (output .entry)) j)) (now (out .exit)) r × (r ≤ at + jointSize) ⌝ }
+    requires { ⌜
+        (j < maxJoints)
+        × (at + jointSize ≤ length (now out))
+        × (outputAt (j + 1) ≤ length (now output))
+        ⌝ }
+    ensures { λ r. ⌜
+        WrittenUpTo jointSize (now (out .entry)) at (jointLine j (matrixIn (now (output .entry)) j)) (now (out .exit)) r
+        ⌝ }
 {
     let behind_name = put_bytes(out, at, b"joint");
     let behind_index = put_decimal(out, behind_name, j);
@@ -150,8 +162,14 @@ fn put_joint(out: &mut [u8], at: usize, j: usize, output: &[f32]) -> usize
 
 // The lines of the first `count` joints.
 pub fn put_joints(out: &mut [u8], at: usize, count: usize, output: &[f32]) -> usize
-    requires { ⌜ (count ≤ maxJoints) × (at + jointSize * count ≤ length (now out)) × (outputAt count ≤ length (now output)) ⌝ }
-    ensures { λ r. ⌜ Written (now (out .entry)) at (jointLines count (now (output .entry))) (now (out .exit)) r × (r ≤ at + jointSize * count) ⌝ }
+    requires { ⌜
+        (count ≤ maxJoints)
+        × (at + jointSize * count ≤ length (now out))
+        × (outputAt count ≤ length (now output))
+        ⌝ }
+    ensures { λ r. ⌜
+        WrittenUpTo (jointSize * count) (now (out .entry)) at (jointLines count (now (output .entry))) (now (out .exit)) r
+        ⌝ }
 {
     let mut behind = at;
     let mut j = 0;

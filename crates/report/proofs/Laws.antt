@@ -13,12 +13,14 @@ use Rattle.printing.proofs.Laws.{more-written, floats-written, joined-same}
 use Rattle.report.specs.Report.{instanceLine, matrixLines, below}
 
 pub instance-written : {xs a b c d e f : List ℕ} {at o p q r s t : ℕ} (n : ℕ) (i : ClipInstance)
-    → Written xs at (105 ∷ 110 ∷ 115 ∷ 116 ∷ 97 ∷ 110 ∷ 99 ∷ 101 ∷ []) a o → Written a o (decimalFields (n ∷ [])) b p
-    → Written b p (floatFields (i .start ∷ [])) c q → Written c q (floatFields (i .rate ∷ [])) d r → Written d r (floatFields (i .offset ∷ [])) e s
-    → Written e s (lineFeed ∷ []) f t → Written xs at (instanceLine n i) f t
+    → Written xs at (105 ∷ 110 ∷ 115 ∷ 116 ∷ 97 ∷ 110 ∷ 99 ∷ 101 ∷ []) a o
+    → Written a o (decimalFields (n ∷ [])) b p
+    → Written b p (floatFields (i .start ∷ [])) c q → Written c q (floatFields (i .rate ∷ [])) d r
+    → Written d r (floatFields (i .offset ∷ [])) e s → Written e s (lineFeed ∷ []) f t → Written xs at (instanceLine n i) f t
 unfolding instanceLine
 instance-written n i w d x y z l =
-    let floats = floats-written (i .start ∷ i .rate ∷ []) (i .offset ∷ []) (floats-written (i .start ∷ []) (i .rate ∷ []) x y) z in
+    let two = floats-written (i .start ∷ []) (i .rate ∷ []) x y in
+    let floats = floats-written (i .start ∷ i .rate ∷ []) (i .offset ∷ []) two z in
     more-written (more-written (more-written w d) floats) l
 
 -- ---- matrices
@@ -33,7 +35,8 @@ map-below zero f = refl
 map-below (suc n) f = map-append f (below n) (n ∷ []) ∙ rw (map-below n f)
 
 -- the lines of the matrices of joints 0, .., n - 1
-pub matrix-lines-below : (n : ℕ) (f : ℕ → List Float) → matrixLines (map f (below n)) ≡ joined n (λ j. jointLine j (f j))
+pub matrix-lines-below : (n : ℕ) (f : ℕ → List Float)
+    → matrixLines (map f (below n)) ≡ joined n (λ j. jointLine j (f j))
 unfolding matrixLines
 matrix-lines-below n f =
     rw (map-below n f, table-length (λ (l : List (List Float)) i. f i) n)

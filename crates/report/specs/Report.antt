@@ -29,12 +29,17 @@ answerLine (refused number place rest) = refusedLine number place
 unfoldable pub transitionFields : Transition → List ℕ
 transitionFields Idle = 44 ∷ 105 ∷ 100 ∷ 108 ∷ 101 ∷ []
 transitionFields (Running start target duration) =
-    (44 ∷ 114 ∷ 117 ∷ 110 ∷ 110 ∷ 105 ∷ 110 ∷ 103 ∷ []) ++ wideField start ++ decimalFields (target ∷ []) ++ floatFields (duration ∷ [])
+    (44 ∷ 114 ∷ 117 ∷ 110 ∷ 110 ∷ 105 ∷ 110 ∷ 103 ∷ []) ++
+    wideField start ++ decimalFields (target ∷ []) ++ floatFields (duration ∷ [])
 
 -- `player`, clock, speed, state, transition
 unfoldable pub playerLine : Float → Float → ℕ → Transition → List ℕ
 playerLine clock speed state transition =
-    (112 ∷ 108 ∷ 97 ∷ 121 ∷ 101 ∷ 114 ∷ []) ++ wideField clock ++ wideField speed ++ decimalFields (state ∷ []) ++ transitionFields transition ++ lineFeed ∷ []
+    (112 ∷ 108 ∷ 97 ∷ 121 ∷ 101 ∷ 114 ∷ []) ++
+    wideField clock ++ wideField speed ++ decimalFields (state ∷ []) ++ transitionFields transition ++ lineFeed ∷ []
+
+abbrev pub playerText : Player → List ℕ
+playerText p = playerLine (p .clock) (p .speed) (p .state) (p .transition)
 
 -- a line for each of some joints' matrices
 unfoldable pub matrixLines : List (List Float) → List ℕ
@@ -46,17 +51,25 @@ below n = tableTo (λ l i. i) n
 
 -- what is compared of a call, as text
 unfoldable pub observationText : Observation → List ℕ
-observationText o = answerLine (o .answer) ++ playerLine (o .clock) (o .speed) (o .state) (o .transition) ++ matrixLines (o .matrices)
+observationText o =
+    answerLine (o .answer) ++ playerLine (o .clock) (o .speed) (o .state) (o .transition) ++ matrixLines (o .matrices)
 
 -- ---- the rest of the player, once the calls are done
 
 -- `parameters`
 unfoldable pub parametersLine : List Float → List ℕ
-parametersLine parameters = (112 ∷ 97 ∷ 114 ∷ 97 ∷ 109 ∷ 101 ∷ 116 ∷ 101 ∷ 114 ∷ 115 ∷ []) ++ floatFields parameters ++ lineFeed ∷ []
+parametersLine parameters =
+    (112 ∷ 97 ∷ 114 ∷ 97 ∷ 109 ∷ 101 ∷ 116 ∷ 101 ∷ 114 ∷ 115 ∷ []) ++ floatFields parameters ++ lineFeed ∷ []
 
 -- `instance`
 unfoldable pub instanceLine : ℕ → ClipInstance → List ℕ
-instanceLine n i = (105 ∷ 110 ∷ 115 ∷ 116 ∷ 97 ∷ 110 ∷ 99 ∷ 101 ∷ []) ++ decimalFields (n ∷ []) ++ floatFields (i .start ∷ i .rate ∷ i .offset ∷ []) ++ lineFeed ∷ []
+instanceLine n i =
+    (105 ∷ 110 ∷ 115 ∷ 116 ∷ 97 ∷ 110 ∷ 99 ∷ 101 ∷ []) ++
+    decimalFields (n ∷ []) ++ floatFields (i .start ∷ i .rate ∷ i .offset ∷ []) ++ lineFeed ∷ []
+
+-- those of the first clip nodes
+abbrev pub instanceLines : ℕ → List Float → List ℕ
+instanceLines count instances = joined count (λ n. instanceLine n (instanceAt instances n))
 
 unfoldable pub endText : Player → List ℕ
-endText p = parametersLine (p .parameters) ++ joined maxClipNodes (λ n. instanceLine n (instanceAt (p .instances) n))
+endText p = parametersLine (p .parameters) ++ instanceLines maxClipNodes (p .instances)

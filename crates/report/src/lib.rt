@@ -1,4 +1,5 @@
-// What a list of calls shows, put into a slice of bytes from a place on. Each function returns the place behind what it put.
+// What a list of calls shows, put into a slice of bytes from a place on.
+// Each function returns the place behind what it put.
 use animation::instance_at;
 use float::f64_to_bits;
 use model::Answer;
@@ -21,12 +22,13 @@ ghost use lib.ListN.{length};
 ghost use lib.Ieee.{binary64, toBits};
 ghost use Rattle.model.specs.Answers.{values};
 ghost use Rattle.model.specs.Plan.{maxClipNodes};
-ghost use Rattle.model.specs.Program.{joined};
 ghost use Rattle.model.specs.Clips.{instanceAt};
-ghost use Rattle.printing.specs.Written.{Written};
+ghost use Rattle.printing.specs.Written.{WrittenUpTo, WrittenExactly};
 ghost use Rattle.printing.specs.Sizes.{refusalSize};
-ghost use Rattle.report.specs.Report.{wideField, answerLine, transitionFields, playerLine, parametersLine, instanceLine};
-ghost use Rattle.report.specs.Sizes.{wideSize, transitionSize, playerSize, parametersSize, instanceSize, instancesSize};
+ghost use Rattle.report.specs.Report.{wideField, answerLine, transitionFields, playerText};
+ghost use Rattle.report.specs.Report.{parametersLine, instanceLine, instanceLines};
+ghost use Rattle.report.specs.Sizes.{wideSize, transitionSize, playerSize};
+ghost use Rattle.report.specs.Sizes.{parametersSize, instanceSize, instancesSize};
 
 // Digits of a 64-bit float's bits.
 const WIDE_DIGITS: usize = 16;
@@ -40,7 +42,7 @@ pub const PLAYER_SIZE: usize = 6 + 2 * WIDE_SIZE + DECIMAL_SIZE + TRANSITION_SIZ
 
 pub fn put_answer(out: &mut [u8], at: usize, answer: Answer) -> usize
     requires { ⌜ at + refusalSize ≤ length (now out) ⌝ }
-    ensures { λ r. ⌜ Written (now (out .entry)) at (answerLine (values answer)) (now (out .exit)) r × (r ≤ at + refusalSize) ⌝ }
+    ensures { λ r. ⌜ WrittenUpTo refusalSize (now (out .entry)) at (answerLine (values answer)) (now (out .exit)) r ⌝ }
 {
     match answer {
         Answer::Accepted => put_bytes(out, at, b"ok\n"),
@@ -57,14 +59,14 @@ fn wide_bits(x: f64) -> usize
 // A comma, and the bits of x.
 fn put_wide(out: &mut [u8], at: usize, x: f64) -> usize
     requires { ⌜ at + wideSize ≤ length (now out) ⌝ }
-    ensures { λ r. ⌜ Written (now (out .entry)) at (wideField x) (now (out .exit)) r × (r ≡ at + wideSize) ⌝ }
+    ensures { λ r. ⌜ WrittenExactly wideSize (now (out .entry)) at (wideField x) (now (out .exit)) r ⌝ }
 {
     put_field(out, at, 16, WIDE_DIGITS, wide_bits(x))
 }
 
 fn put_transition(out: &mut [u8], at: usize, transition: Transition) -> usize
     requires { ⌜ at + transitionSize ≤ length (now out) ⌝ }
-    ensures { λ r. ⌜ Written (now (out .entry)) at (transitionFields transition) (now (out .exit)) r × (r ≤ at + transitionSize) ⌝ }
+    ensures { λ r. ⌜ WrittenUpTo transitionSize (now (out .entry)) at (transitionFields transition) (now (out .exit)) r ⌝ }
 {
     match transition {
         Transition::Idle => put_bytes(out, at, b",idle"),
@@ -83,7 +85,7 @@ fn put_transition(out: &mut [u8], at: usize, transition: Transition) -> usize
 
 pub fn put_player(out: &mut [u8], at: usize, player: Player) -> usize
     requires { ⌜ at + playerSize ≤ length (now out) ⌝ }
-    ensures { λ r. ⌜ Written (now (out .entry)) at (playerLine (player .clock) (player .speed) (player .state) (player .transition)) (now (out .exit)) r × (r ≤ at + playerSize) ⌝ }
+    ensures { λ r. ⌜ WrittenUpTo playerSize (now (out .entry)) at (playerText player) (now (out .exit)) r ⌝ }
 {
     let transition = player.transition;
     let behind_name = put_bytes(out, at, b"player");
@@ -98,7 +100,9 @@ pub fn put_player(out: &mut [u8], at: usize, player: Player) -> usize
 
 pub fn put_parameters(out: &mut [u8], at: usize, parameters: &[f32; MAX_PARAMETERS]) -> usize
     requires { ⌜ at + parametersSize ≤ length (now out) ⌝ }
-    ensures { λ r. ⌜ Written (now (out .entry)) at (parametersLine (now (parameters .entry))) (now (out .exit)) r × (r ≡ at + parametersSize) ⌝ }
+    ensures { λ r. ⌜
+        WrittenExactly parametersSize (now (out .entry)) at (parametersLine (now (parameters .entry))) (now (out .exit)) r
+        ⌝ }
 {
     let behind_name = put_bytes(out, at, b"parameters");
     let behind_floats = put_floats(out, behind_name, parameters);
@@ -107,7 +111,10 @@ pub fn put_parameters(out: &mut [u8], at: usize, parameters: &[f32; MAX_PARAMETE
 
 fn put_instance(out: &mut [u8], at: usize, n: usize, instances: &[f32; MAX_INSTANCES]) -> usize
     requires { ⌜ (n < maxClipNodes) × (at + instanceSize ≤ length (now out)) ⌝ }
-    ensures { λ r. ⌜ Written (now (out .entry)) at (instanceLine n (instanceAt (now (instances .entry)) n)) (now (out .exit)) r × (r ≤ at + instanceSize) ⌝ }
+    ensures { λ r. ⌜
+        WrittenUpTo instanceSize
+            (now (out .entry)) at (instanceLine n (instanceAt (now (instances .entry)) n)) (now (out .exit)) r
+        ⌝ }
 {
     let instance = instance_at(instances, n);
     let behind_name = put_bytes(out, at, b"instance");
@@ -121,7 +128,10 @@ fn put_instance(out: &mut [u8], at: usize, n: usize, instances: &[f32; MAX_INSTA
 // Those of all clip nodes, used or not.
 pub fn put_instances(out: &mut [u8], at: usize, instances: &[f32; MAX_INSTANCES]) -> usize
     requires { ⌜ at + instancesSize ≤ length (now out) ⌝ }
-    ensures { λ r. ⌜ Written (now (out .entry)) at (joined maxClipNodes (λ n. instanceLine n (instanceAt (now (instances .entry)) n))) (now (out .exit)) r × (r ≤ at + instancesSize) ⌝ }
+    ensures { λ r. ⌜
+        WrittenUpTo instancesSize
+            (now (out .entry)) at (instanceLines maxClipNodes (now (instances .entry))) (now (out .exit)) r
+        ⌝ }
 {
     let mut behind = at;
     let mut n = 0;

@@ -1,4 +1,4 @@
--- `printing::places` meets its contract: each turn takes one digit off and counts it. 20 digits are enough for any n. Assumes nothing.
+-- `printing::places` meets its contract: each turn takes one digit off and counts it, and 20 are enough. Assumes nothing.
 use Prim.Native.Nat.{suc, _+_, _-_, _^_, _≤_, _<_}
 use mathlib.Core.Path.{_≡_}
 use native.Mathlib.Omega.{arith}
@@ -8,7 +8,8 @@ use Rattle.printing.proofs.places.Statement.{statement}
 use Rattle.printing.proofs.places.Tie as tie
 
 abbrev Inv-loop : tie.InvT-loop
-Inv-loop n rest₀ k₀ rest k = (1 ≤ k) × (k ≤ 20) × (places 19 n + 1 ≡ k + places (20 - k) rest) × (rest < 10 ^ suc (20 - k))
+Inv-loop n rest₀ k₀ rest k =
+    (1 ≤ k) × (k ≤ 20) × (places 19 n + 1 ≡ k + places (20 - k) rest) × (rest < 10 ^ suc (20 - k))
 
 abbrev μ-loop : tie.MeasureT-loop
 μ-loop n rest₀ k₀ rest k = rest

@@ -10,7 +10,8 @@ returns : tie.Need-returns
 returns c =
     let f = c .before .before in
     let b = f .before .bits in
-    (float-written _ _ (b .ensures) (f .put-field .ensures), omega (arith, f .put-field .ensures .ended, length-digits 16 8 (b .result)))
+    let n = length-digits 16 8 (b .result) in
+    (float-written _ _ (b .ensures) (f .put-field .ensures), omega (arith, f .put-field .ensures .ended))
 
 pub put-bits-spec : {M : Type 1} → statement M
 put-bits-spec = tie.close (tie.spec (search needs) (λ c κs. search needs) (search needs) returns)

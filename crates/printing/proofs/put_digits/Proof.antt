@@ -1,4 +1,4 @@
--- `printing::put_digits` meets its contract: the digits that are still to come complete what the contract asks for. Assumes nothing.
+-- `printing::put_digits` meets its contract: the digits still to come complete what it asks for. Assumes nothing.
 use borrow.Author.Needs.{needs}
 use Prim.Native.Nat.{_≤_}
 use mathlib.Core.Path.{_≡_, _∙_}
@@ -12,13 +12,15 @@ use Rattle.printing.proofs.put_digits.Statement.{statement}
 use Rattle.printing.proofs.put_digits.Tie as tie
 
 abbrev Inv-loop : tie.InvT-loop
-Inv-loop out₀ at base count n rest₀ k₀ out rest k = (k ≤ count) × (length out ≡ length out₀) × (sets out at (digits base k rest) ≡ sets out₀ at (digits base count n))
+Inv-loop out₀ at base count n rest₀ k₀ out rest k =
+    (k ≤ count) × (length out ≡ length out₀) × (sets out at (digits base k rest) ≡ sets out₀ at (digits base count n))
 
 abbrev μ-loop : tie.MeasureT-loop
 μ-loop out₀ at base count n rest₀ k₀ out rest k = k
 
 glyph-requires : tie.Need-glyph-requires Inv-loop μ-loop
-glyph-requires c κs = omega (arith, mod-lt (c .before .loop .rest) {m = c .before .before .before .args .base} (omega arith))
+glyph-requires c κs =
+    omega (arith, mod-lt (c .before .loop .rest) {m = c .before .before .before .args .base} (omega arith))
 
 loop-again : tie.Need-loop-again Inv-loop μ-loop
 loop-again c =

@@ -10,8 +10,10 @@ same-length c = simp length-set at (c .before .before .put-digits .kept .0)
 
 returns : tie.Need-returns
 returns c =
-    let s = c .before .before .before .before .before in
-    field-written (s .args .out .now) (s .args .at) (s .args .base) (s .args .count) (s .args .n) (c .before .before .put-digits .ensures)
+    let a = c .before .before .before .before .before .args in
+    field-written (a .out .now) (a .at) (a .base) (a .count) (a .n) (c .before .before .put-digits .ensures)
 
 pub put-field-spec : {M : Type 1} → statement M
-put-field-spec = tie.close (tie.spec (search needs) (search needs) (λ c κs. search needs) (search needs) (search needs) same-length returns)
+put-field-spec =
+    tie.close
+    (tie.spec (search needs) (search needs) (λ c κs. search needs) (search needs) (search needs) same-length returns)

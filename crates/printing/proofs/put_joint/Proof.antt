@@ -19,12 +19,14 @@ lent j = omega arith
 -- an index has few digits, and a matrix is lent
 known : (c : tie.After-put-decimal)
     → let a = c .before .before .before .before .before .before .before .before .before .args in
+    let from = outputAt (a .j) in
     (c .put-decimal .result ≤ a .at + 5 + indexSize) × (a .at + jointSize ≤ length (a .out .now))
-    × (length (take (outputAt (a .j) + matrixFloats - outputAt (a .j)) (drop (outputAt (a .j)) (a .output .now))) ≡ matrixFloats)
+    × (length (take (from + matrixFloats - from) (drop from (a .output .now))) ≡ matrixFloats)
 known c =
     let a = c .before .before .before .before .before .before .before .before .before .args in
     let from = outputAt (a .j) in
-    let floats = length-take-le matrixFloats (drop from (a .output .now)) (omega (arith, length-drop from (a .output .now))) in
+    let there = length-drop from (a .output .now) in
+    let floats = length-take-le matrixFloats (drop from (a .output .now)) (omega arith) in
     (omega (arith, short-decimal (indexDigits - 1) (a .j) (omega arith)), omega arith, rw (lent (a .j)) floats)
 
 put-floats-requires : tie.Need-put-floats-requires
@@ -40,7 +42,8 @@ returns c =
     let d = f .before .before .before .before .before in
     let w = d .before .before .before .before .put-bytes .ensures in
     let j = d .before .before .before .before .before .before .before .before .before .args .j in
-    (joint-written j _ w (d .put-decimal .ensures .0) (rw (lent j) at (f .put-floats .ensures .0)), omega (arith, known d))
+    let floats = rw (lent j) at (f .put-floats .ensures .0) in
+    (joint-written j _ w (d .put-decimal .ensures .0) floats, omega (arith, known d))
 
 pub put-joint-spec : {M : Type 1} → statement M
 put-joint-spec =

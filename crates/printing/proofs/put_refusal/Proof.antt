@@ -11,8 +11,10 @@ returns c =
     let p = c .before .before in
     let n = p .before .before .before .before in
     let s = n .before .before .before .before .before .before .before .before in
+    let refusal = s .args .refusal in
     let word = n .before .before .before .before .put-bytes .ensures in
-    (refusal-written (s .args .refusal .number) (s .args .refusal .place) word (n .put-decimal .ensures .0) (p .put-decimal2 .ensures .0), omega arith)
+    let number = n .put-decimal .ensures .0 in
+    (refusal-written (refusal .number) (refusal .place) word number (p .put-decimal2 .ensures .0), omega arith)
 
 pub put-refusal-spec : {M : Type 1} → statement M
 put-refusal-spec =

@@ -10,7 +10,8 @@ returns : tie.Need-returns
 unfolding values answerLine
 returns c =
     let w = c .before .before in
-    (rw (w .before .before .before .enum-told .given .1) (w .put-bytes .ensures), omega (arith, w .put-bytes .ensures .ended))
+    let put = w .put-bytes .ensures in
+    (rw (w .before .before .before .enum-told .given .1) put, omega arith)
 
 returns-2 : tie.Need-returns-2
 unfolding values answerLine
@@ -21,4 +22,13 @@ returns-2 c =
 pub put-answer-spec : {M : Type 1} → statement M
 put-answer-spec =
     tie.close
-    (tie.spec (search needs) (search needs) (λ c κs. search needs) (search needs) (λ c κs. search needs) (search needs) returns (search needs) returns-2)
+    (tie.spec
+    (search needs)
+    (search needs)
+    (λ c κs. search needs)
+    (search needs)
+    (λ c κs. search needs)
+    (search needs)
+    returns
+    (search needs)
+    returns-2)

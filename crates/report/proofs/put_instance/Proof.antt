@@ -1,4 +1,4 @@
--- `report::put_instance` meets its contract: a word, a decimal, three floats and LF, each behind the other. Assumes nothing.
+-- `report::put_instance` meets its contract: a word, a decimal, three floats and LF. Assumes nothing.
 use borrow.Author.Needs.{needs}
 use Prim.Native.Nat.{_+_, _-_, _≤_}
 use native.Mathlib.Omega.{arith}
@@ -22,11 +22,15 @@ put-bits-requires-2 : tie.Need-put-bits-requires-2
 put-bits-requires-2 c κs = omega (arith, after-number (c .before .before .before .before .before .before .before))
 
 put-bits-requires-3 : tie.Need-put-bits-requires-3
-put-bits-requires-3 c κs = omega (arith, after-number (c .before .before .before .before .before .before .before .before .before .before .before))
+put-bits-requires-3 c κs =
+    let rate = c .before .before .before .before in
+    omega (arith, after-number (rate .before .before .before .before .before .before .before))
 
 put-bytes-requires-2 : tie.Need-put-bytes-requires-2
 put-bytes-requires-2 c κs =
-    omega (arith, after-number (c .before .before .before .before .before .before .before .before .before .before .before .before .before .before .before .before))
+    let offset = c .before .before .before .before .before in
+    let rate = offset .before .before .before .before in
+    omega (arith, after-number (rate .before .before .before .before .before .before .before))
 
 returns : tie.Need-returns
 returns c =
@@ -38,7 +42,10 @@ returns c =
     let word = number .before .before .before .before in
     let i = word .before .before .before .instance-at in
     let n = word .before .before .before .before .before .args .n in
-    let fields = instance-written n (i .result) (word .put-bytes .ensures) (number .put-decimal .ensures .0) (start .put-bits .ensures .0) (rate .put-bits2 .ensures .0) (offset .put-bits3 .ensures .0) (end .put-bytes2 .ensures) in
+    let fields =
+        instance-written n (i .result) (word .put-bytes .ensures) (number .put-decimal .ensures .0)
+        (start .put-bits .ensures .0) (rate .put-bits2 .ensures .0) (offset .put-bits3 .ensures .0) (end .put-bytes2 .ensures)
+    in
     (rw (i .ensures) at fields, omega (arith, after-number number))
 
 pub put-instance-spec : {M : Type 1} → statement M

@@ -12,9 +12,17 @@ returns c =
     let end = c .before .before in
     let floats = end .before .before .before .before .before in
     let word = floats .before .before .before .before .before in
-    (more-written (more-written (word .put-bytes .ensures) (floats .put-floats .ensures .0)) (end .put-bytes2 .ensures), omega arith)
+    let begun = more-written (word .put-bytes .ensures) (floats .put-floats .ensures .0) in
+    (more-written begun (end .put-bytes2 .ensures), omega arith)
 
 pub put-parameters-spec : {M : Type 1} → statement M
 put-parameters-spec =
     tie.close
-    (tie.spec (search needs) (λ c κs. search needs) (λ c κs. search needs) (search needs) (λ c κs. search needs) (search needs) returns)
+    (tie.spec
+    (search needs)
+    (λ c κs. search needs)
+    (λ c κs. search needs)
+    (search needs)
+    (λ c κs. search needs)
+    (search needs)
+    returns)

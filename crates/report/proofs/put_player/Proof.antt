@@ -1,4 +1,4 @@
--- `report::put_player` meets its contract: a word, clock, speed, state, transition and LF, each behind the other. Assumes nothing.
+-- `report::put_player` meets its contract: a word, clock, speed, state, transition and LF. Assumes nothing.
 use borrow.Author.Needs.{needs}
 use native.Mathlib.Omega.{arith}
 use Rattle.printing.proofs.Laws.{more-written}
@@ -15,9 +15,9 @@ returns c =
     let speed = state .before .before .before .before in
     let clock = speed .before .before .before .before in
     let word = clock .before .before .before .before in
-    let times = more-written (more-written (word .put-bytes .ensures) (clock .put-wide .ensures .0)) (speed .put-wide2 .ensures .0) in
-    let line = more-written (more-written (more-written times (state .put-decimal .ensures .0)) (transition .put-transition .ensures .0)) (end .put-bytes2 .ensures) in
-    (line, omega arith)
+    let begun = more-written (word .put-bytes .ensures) (clock .put-wide .ensures .0) in
+    let fields = more-written (more-written begun (speed .put-wide2 .ensures .0)) (state .put-decimal .ensures .0) in
+    (more-written (more-written fields (transition .put-transition .ensures .0)) (end .put-bytes2 .ensures), omega arith)
 
 pub put-player-spec : {M : Type 1} → statement M
 put-player-spec =

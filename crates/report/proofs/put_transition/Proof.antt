@@ -1,4 +1,4 @@
--- `report::put_transition` meets its contract: a word, and what a running transition has, each behind the other. Assumes nothing.
+-- `report::put_transition` meets its contract: a word, and what a running transition has. Assumes nothing.
 use borrow.Author.Needs.{needs}
 use native.Mathlib.Omega.{arith}
 use Rattle.printing.proofs.Laws.{more-written}
@@ -10,7 +10,8 @@ returns : tie.Need-returns
 unfolding transitionFields
 returns c =
     let w = c .before .before in
-    (rw (w .before .before .before .enum-told .given .1) (w .put-bytes .ensures), omega (arith, w .put-bytes .ensures .ended))
+    let put = w .put-bytes .ensures in
+    (rw (w .before .before .before .enum-told .given .1) put, omega arith)
 
 returns-2 : tie.Need-returns-2
 unfolding transitionFields
@@ -20,7 +21,8 @@ returns-2 c =
     let start = target .before .before .before .before in
     let word = start .before .before .before .before in
     let running = word .before .before .before .before .transition .given .1 in
-    let fields = more-written (more-written (more-written (word .put-bytes2 .ensures) (start .put-wide .ensures .0)) (target .put-decimal .ensures .0)) (duration .put-bits .ensures .0) in
+    let begun = more-written (word .put-bytes2 .ensures) (start .put-wide .ensures .0) in
+    let fields = more-written (more-written begun (target .put-decimal .ensures .0)) (duration .put-bits .ensures .0) in
     (rw running fields, omega (arith, duration .put-bits .ensures .1))
 
 pub put-transition-spec : {M : Type 1} → statement M

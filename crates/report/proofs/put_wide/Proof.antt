@@ -9,7 +9,8 @@ returns : tie.Need-returns
 returns c =
     let f = c .before .before in
     let b = f .before .wide-bits in
-    (rw (b .ensures) at (f .put-field .ensures), omega (arith, f .put-field .ensures .ended, length-digits 16 16 (b .result)))
+    let n = length-digits 16 16 (b .result) in
+    (rw (b .ensures) at (f .put-field .ensures), omega (arith, f .put-field .ensures .ended))
 
 pub put-wide-spec : {M : Type 1} → statement M
 put-wide-spec = tie.close (tie.spec (search needs) (λ c κs. search needs) (search needs) returns)
