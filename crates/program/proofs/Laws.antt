@@ -3,8 +3,7 @@ use Prim.Native.Nat.{ℕ, _+_, _*_, _≤_, _<_}
 use native.Mathlib.Omega.{arith}
 use mathlib.Core.Path.{_≡_, refl, sym, ap, _∙_}
 use mathlib.Core.List.{List}
-use lib.ListN.{length, take, drop, length-append, length-map}
-use lib.Seq.{take-append-seam}
+use lib.ListN.{length, take, length-map}
 use lib.Ieee.{Float, binary32, ofBits}
 use borrow.Author.Tests.{lt-ltb, le-ltb, le-leb}
 use Rattle.model.specs.declared.FrameKind.the-variants.{Ordinary}
@@ -16,10 +15,12 @@ use Rattle.model.specs.declared.TextAnswer.{TextAnswer}
 use Rattle.model.specs.declared.TextAnswer.the-variants as text-answer
 use Rattle.model.specs.Numbers.{0f}
 use Rattle.model.specs.Answers.{accepted, values, _then_, require, unlessRefused}
-use Rattle.model.specs.Plan.{maxJoints, maxPlan, maxOutput, jointCountAt, word, jointCount, stateCount, initialState, outputAt}
+use Rattle.model.specs.Plan.{maxJoints, maxPlan, maxOutput, jointCountAt, word, jointCount, stateCount}
+use Rattle.model.specs.Plan.{initialState, outputAt}
 use Rattle.model.specs.Controller.{blank, fresh, isTargetBelow, frameVerdict}
 use Rattle.model.specs.Skeleton.{written}
-use Rattle.model.specs.Text.{Reading, bad, got, readFigure, floatsOf, overwritten, readWords, readFloats, textValues, textVerdict, whenAccepted}
+use Rattle.model.specs.Text.{Reading, bad, got, readFigure, floatsOf, overwritten, readWords, readFloats}
+use Rattle.model.specs.Text.{textValues, textVerdict, whenAccepted}
 use Rattle.model.specs.Text as text
 use Rattle.model.specs.Run.{startVerdict, startPlayer, frameMatrices}
 use Rattle.model.specs.Program.{refusedLine, jointLine, played, printedFrom, maxText, maxNumbers, printed}
@@ -28,8 +29,9 @@ use Rattle.model.specs.Laws.Output.{matrix-at, frame-length}
 use Rattle.model.specs.Laws.Passed.{initial-below, few-joints}
 use Rattle.model.specs.Laws.Reading.{figure-fits}
 use Rattle.printing.specs.Written.{jointLines}
-use Rattle.printing.proofs.Laws.{joined-same}
+use Rattle.printing.proofs.Laws.{front-length, front-is, joined-same}
 use Rattle.round_trip.specs.Theorems.{words-most}
+use Rattle.program.specs.Figure.{figurePrinted}
 
 -- ---- one frame
 
@@ -46,18 +48,21 @@ module _ (plan : List ℕ) (numbers : List Float) (started : startVerdict plan n
       rw (started, below, le-leb (outputAt (jointCount plan)) n (omega (arith, few-shown)))
 
   -- the lines of that frame's floats are what is to be printed
-  pub frame-lines : (p : Player) (count : ℕ) (old new : List Float) (r : Outcome) → p ≡ fresh plan numbers → count ≡ word plan jointCountAt → maxOutput ≤ length old
+  pub frame-lines : (p : Player) (count : ℕ) (old new : List Float) (r : Outcome) → p ≡ fresh plan numbers
+      → count ≡ word plan jointCountAt → maxOutput ≤ length old
       → Framed Ordinary plan numbers p 0f old new r → jointLines count new ≡ played plan numbers accepted
   unfolding played jointCount written unlessRefused
   frame-lines p count old new r e n room done =
       let ms = frameMatrices plan numbers (fresh plan numbers) 0f Ordinary in
+      let long = frame-length plan numbers (fresh plan numbers) 0f Ordinary in
       let o : new ≡ written plan ms old = rw (e, fresh-accepted (length old) room) at (done .output) in
-      rw (n, o) (joined-same (jointCount plan) _ _ (λ j h. ap (jointLine j) (matrix-at ms _ j (omega (arith, frame-length plan numbers (fresh plan numbers) 0f Ordinary)))))
+      rw (n, o) (joined-same (jointCount plan) _ _ (λ j h. ap (jointLine j) (matrix-at ms _ j (omega arith))))
 
 -- ---- a start
 
 module _ (plan : List ℕ) (numbers : List Float) (r : Outcome) (done : Started plan numbers r) where
-  pub refusal-played : (f : Refusal) → r .answer ≡ answer.Refused f → refusedLine (f .number) (f .place) ≡ played plan numbers (startVerdict plan numbers)
+  pub refusal-played : (f : Refusal) → r .answer ≡ answer.Refused f
+      → refusedLine (f .number) (f .place) ≡ figurePrinted plan numbers
   unfolding values played
   refusal-played f e = rw (← done .answer, e)
 
@@ -72,22 +77,6 @@ module _ (plan : List ℕ) (numbers : List Float) (r : Outcome) (done : Started 
 
 -- ---- a text
 
--- what was put in front of a buffer
-module _ {A : Type 0} (new old : List A) where
-  front-length : length new ≤ length (overwritten new old)
-  unfolding overwritten
-  front-length = omega (arith, length-append new (drop (length new) old))
-
-  front-is : take (length new) (overwritten new old) ≡ new
-  unfolding overwritten
-  front-is = take-append-seam new (drop (length new) old)
-
--- what was printed stands in the front of the buffer, so it fits
-pub printed-front : (lines old after wanted : List ℕ) (r : ℕ) → lines ≡ wanted → (r ≡ length lines) × (after ≡ overwritten lines old)
-    → ((r ≤ length after) × (r ≡ length (take r after))) × (take r after ≡ wanted)
-printed-front lines old after wanted r e put =
-    rw (put .0, put .1) ((front-length lines old, sym (ap length (front-is lines old))), front-is lines old ∙ e)
-
 pub printed-long : (s : List ℕ) → maxText < length s → refusedLine 13 maxText ≡ printed s
 unfolding printed
 printed-long s h = rw (lt-ltb maxText (length s) h)
@@ -96,10 +85,11 @@ printed-long s h = rw (lt-ltb maxText (length s) h)
 pub record FigureRead (s plan : List ℕ) (numbers : List Float) (words count : ℕ) : Type 0 where
   pub words-there : words ≤ length plan
   pub numbers-there : count ≤ length numbers
-  pub lines : played (take words plan) (take count numbers) (startVerdict (take words plan) (take count numbers)) ≡ printed s
+  pub lines : figurePrinted (take words plan) (take count numbers) ≡ printed s
 
-module _ (s planOld planNew : List ℕ) (numbersOld numbersNew : List Float) (r : TextAnswer) (done : TextRead s planOld planNew numbersOld numbersNew r)
-    (short : length s ≤ maxText) (words-room : maxPlan ≤ length planOld) (numbers-room : maxNumbers ≤ length numbersOld) where
+module _ (s planOld planNew : List ℕ) (numbersOld numbersNew : List Float) (r : TextAnswer)
+    (done : TextRead s planOld planNew numbersOld numbersNew r) (short : length s ≤ maxText)
+    (words-room : maxPlan ≤ length planOld) (numbers-room : maxNumbers ≤ length numbersOld) where
   printed-short : printed s ≡ printedFrom (readFigure s)
   unfolding printed
   printed-short = rw (le-ltb maxText (length s) short)
@@ -122,10 +112,13 @@ module _ (s planOld planNew : List ℕ) (numbersOld numbersNew : List Float) (r 
           let v : text.refused (f .number) (f .place) 0 ≡ text.refused 11 m 0 = rw (e, t) at (done .answer) in
           cc
       go (got ws bs rest m) t =
-          let v : text.refused (f .number) (f .place) 0 ≡ text.accepted (length ws) (length bs) = rw e at (done .answer) ∙ room-enough ws bs rest m t in
+          let v : text.refused (f .number) (f .place) 0 ≡ text.accepted (length ws) (length bs) =
+          rw e at (done .answer) ∙ room-enough ws bs rest m t
+          in
           cc
 
-  pub figure-read : (words count : ℕ) → r ≡ text-answer.Accepted words count → FigureRead s planNew numbersNew words count
+  pub figure-read : (words count : ℕ) → r ≡ text-answer.Accepted words count
+      → FigureRead s planNew numbersNew words count
   unfolding textValues textVerdict whenAccepted readWords readFloats printedFrom
   figure-read words count e = go (readFigure s) refl
     where

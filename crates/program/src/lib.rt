@@ -16,18 +16,25 @@ use printing::put_joints;
 use printing::put_refusal;
 ghost use mathlib.Core.Path.{_≡_};
 ghost use Prim.Native.Nat.{_≤_};
-ghost use lib.ListN.{length, take};
+ghost use lib.ListN.{length};
 ghost use Rattle.model.specs.Answers.{accepted};
 ghost use Rattle.model.specs.Controller.{fresh};
 ghost use Rattle.model.specs.Run.{startVerdict};
-ghost use Rattle.model.specs.Text.{overwritten};
 ghost use Rattle.model.specs.Program.{played, maxText, printed};
+ghost use Rattle.printing.specs.Written.{Front};
 ghost use Rattle.printing.specs.Sizes.{maxPrinted};
+ghost use Rattle.program.specs.Figure.{figurePrinted};
 
 // One frame with ext 0 of a figure that was started.
 fn show(plan: &[u16], numbers: &[f32], player: Player, out: &mut [u8]) -> usize
-    requires { ⌜ (startVerdict (now plan) (now numbers) ≡ accepted) × (player ≡ fresh (now plan) (now numbers)) × (maxPrinted ≤ length (now out)) ⌝ }
-    ensures { λ r. ⌜ (r ≡ length (played (now (plan .entry)) (now (numbers .entry)) accepted)) × (now (out .exit) ≡ overwritten (played (now (plan .entry)) (now (numbers .entry)) accepted) (now (out .entry))) ⌝ }
+    requires { ⌜
+        (startVerdict (now plan) (now numbers) ≡ accepted)
+        × (player ≡ fresh (now plan) (now numbers))
+        × (maxPrinted ≤ length (now out))
+        ⌝ }
+    ensures { λ r. ⌜
+        Front (played (now (plan .entry)) (now (numbers .entry)) accepted) (now (out .entry)) (now (out .exit)) r
+        ⌝ }
 {
     let mut floats = [0.0f32; MAX_OUTPUT];
     frame(plan, numbers, player, 0.0, &mut floats);
@@ -36,7 +43,9 @@ fn show(plan: &[u16], numbers: &[f32], player: Player, out: &mut [u8]) -> usize
 
 fn play(plan: &[u16], numbers: &[f32], out: &mut [u8]) -> usize
     requires { ⌜ maxPrinted ≤ length (now out) ⌝ }
-    ensures { λ r. ⌜ (r ≡ length (played (now (plan .entry)) (now (numbers .entry)) (startVerdict (now (plan .entry)) (now (numbers .entry))))) × (now (out .exit) ≡ overwritten (played (now (plan .entry)) (now (numbers .entry)) (startVerdict (now (plan .entry)) (now (numbers .entry)))) (now (out .entry))) ⌝ }
+    ensures { λ r. ⌜
+        Front (figurePrinted (now (plan .entry)) (now (numbers .entry))) (now (out .entry)) (now (out .exit)) r
+        ⌝ }
 {
     let begun = start(plan, numbers);
     let started = begun.answer;
@@ -49,10 +58,11 @@ fn play(plan: &[u16], numbers: &[f32], out: &mut [u8]) -> usize
     }
 }
 
-// The slices hold the figure of any text that is not too long: the limits allow no more words, and each number takes nine bytes of the text.
+// The slices hold the figure of any text that is not too long: the limits allow no more words, and each number
+// takes nine bytes of the text.
 fn read_and_play(text: &[u8], out: &mut [u8]) -> usize
     requires { ⌜ (length (now text) ≤ maxText) × (maxPrinted ≤ length (now out)) ⌝ }
-    ensures { λ r. ⌜ (r ≡ length (printed (now (text .entry)))) × (now (out .exit) ≡ overwritten (printed (now (text .entry))) (now (out .entry))) ⌝ }
+    ensures { λ r. ⌜ Front (printed (now (text .entry))) (now (out .entry)) (now (out .exit)) r ⌝ }
 {
     let mut plan = [0u16; MAX_PLAN];
     let mut numbers = [0.0f32; MAX_NUMBERS];
@@ -66,10 +76,9 @@ fn read_and_play(text: &[u8], out: &mut [u8]) -> usize
     }
 }
 
-// What the program prints for a text, in the front of `out`, and how many bytes that is.
+// What the program prints for a text, over the front of `out`, and how many bytes that is; the others are left.
 pub fn answer(text: &[u8], out: &mut [u8; MAX_PRINTED]) -> usize
-    ensures { λ r. ⌜ (r ≤ length (now (out .exit))) × (r ≡ length (take r (now (out .exit)))) ⌝ }
-    ensures { λ r. ⌜ take r (now (out .exit)) ≡ printed (now (text .entry)) ⌝ }
+    ensures { λ r. ⌜ Front (printed (now (text .entry))) (now (out .entry)) (now (out .exit)) r ⌝ }
 {
     if text.len() > MAX_TEXT {
         return put_refusal(

@@ -113,7 +113,7 @@ fn put_instance(out: &mut [u8], at: usize, n: usize, instances: &[f32; MAX_INSTA
     requires { ⌜ (n < maxClipNodes) × (at + instanceSize ≤ length (now out)) ⌝ }
     ensures { λ r. ⌜
         WrittenUpTo instanceSize
-            (now (out .entry)) at (instanceLine n (instanceAt (now (instances .entry)) n)) (now (out .exit)) r
+        (now (out .entry)) at (instanceLine n (instanceAt (now (instances .entry)) n)) (now (out .exit)) r
         ⌝ }
 {
     let instance = instance_at(instances, n);
@@ -130,7 +130,7 @@ pub fn put_instances(out: &mut [u8], at: usize, instances: &[f32; MAX_INSTANCES]
     requires { ⌜ at + instancesSize ≤ length (now out) ⌝ }
     ensures { λ r. ⌜
         WrittenUpTo instancesSize
-            (now (out .entry)) at (instanceLines maxClipNodes (now (instances .entry))) (now (out .exit)) r
+        (now (out .entry)) at (instanceLines maxClipNodes (now (instances .entry))) (now (out .exit)) r
         ⌝ }
 {
     let mut behind = at;

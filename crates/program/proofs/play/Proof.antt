@@ -1,6 +1,7 @@
--- `program::play` meets its contract: a start that is refused is printed as such, and an accepted one hands over a fresh player. Assumes nothing.
+-- `program::play` meets its contract: a refused start is printed as such, an accepted one gives a fresh player.
+-- Assumes nothing.
 use borrow.Author.Needs.{needs}
-use Rattle.printing.proofs.Laws.{text-written}
+use Rattle.printing.proofs.Laws.{front-written}
 use Rattle.program.proofs.Laws.{refusal-played, start-accepted, player-fresh}
 use Rattle.program.proofs.play.Statement.{statement}
 use Rattle.program.proofs.play.Tie as tie
@@ -16,7 +17,8 @@ returns : tie.Need-returns
 returns c =
     let p = c .before .before in
     let t = p .before .before .before in
-    rw (refusal-played _ _ _ (t .before .before .start .ensures) _ (t .started .given .1)) at (text-written (p .put-refusal .ensures .0) (search needs))
+    rw (refusal-played _ _ _ (t .before .before .start .ensures) _ (t .started .given .1))
+    at (front-written (p .put-refusal .ensures .0) (search needs))
 
 returns-2 : tie.Need-returns-2
 returns-2 c =
@@ -25,4 +27,15 @@ returns-2 c =
     rw (start-accepted _ _ _ (t .before .before .start .ensures) (t .enum-told .given .1)) (s .show .ensures)
 
 pub play-spec : {M : Type 1} → statement M
-play-spec = tie.close (tie.spec (search needs) (search needs) (search needs) (search needs) show-requires (search needs) returns (search needs) returns-2)
+play-spec =
+    tie.close
+    (tie.spec
+    (search needs)
+    (search needs)
+    (search needs)
+    (search needs)
+    show-requires
+    (search needs)
+    returns
+    (search needs)
+    returns-2)

@@ -1,8 +1,8 @@
--- `program::read_and_play` meets its contract: the slices hold any figure that a text of this length has. Assumes nothing.
+-- `program::read_and_play` meets its contract: the slices hold any figure of a text this long. Assumes nothing.
 use mathlib.Core.Path.{sym}
 use lib.Seq.{length-take-le}
 use borrow.Author.Needs.{needs}
-use Rattle.printing.proofs.Laws.{text-written}
+use Rattle.printing.proofs.Laws.{front-written}
 use Rattle.program.proofs.Laws.{refusal-printed, FigureRead, figure-read}
 use Rattle.program.proofs.read_and_play.Statement.{statement}
 use Rattle.program.proofs.read_and_play.Tie as tie
@@ -11,10 +11,12 @@ use Rattle.program.proofs.read_and_play.Tie as tie
 known : (c : tie.After-read3)
     → let r = c .before .before .before .before in
     let a = r .before .before .before .before .before .args in
-    FigureRead (a .text .now) (r .read .last .1 .0) (r .read .last .1 .1 .0) (c .read3 .given .0 .0) (c .read3 .given .0 .1 .0)
+    let given = c .read3 .given .0 in
+    FigureRead (a .text .now) (r .read .last .1 .0) (r .read .last .1 .1 .0) (given .0) (given .1 .0)
 known c =
     let r = c .before .before .before .before in
-    figure-read _ _ _ _ _ _ (r .read .ensures) (r .before .before .before .before .before .pre .0) (search needs) (search needs) _ _ (c .read3 .given .1)
+    let short = r .before .before .before .before .before .pre .0 in
+    figure-read _ _ _ _ _ _ (r .read .ensures) short (search needs) (search needs) _ _ (c .read3 .given .1)
 
 array-share-prefix-plan : tie.Need-array-share-prefix-plan
 array-share-prefix-plan c = known (c .before) .words-there
@@ -33,8 +35,9 @@ returns c =
     let p = c .before .before in
     let t = p .before .before .before in
     let r = t .before .before .before .before in
-    let a = r .before .before .before .before .before in
-    rw (refusal-printed _ _ _ _ _ _ (r .read .ensures) (a .pre .0) (search needs) (search needs) _ (t .read2 .given .1)) at (text-written (p .put-refusal .ensures .0) (search needs))
+    let short = r .before .before .before .before .before .pre .0 in
+    rw (refusal-printed _ _ _ _ _ _ (r .read .ensures) short (search needs) (search needs) _ (t .read2 .given .1))
+    at (front-written (p .put-refusal .ensures .0) (search needs))
 
 returns-2 : tie.Need-returns-2
 returns-2 c =

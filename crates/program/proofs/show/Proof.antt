@@ -1,16 +1,18 @@
--- `program::show` meets its contract: the frame is accepted, so the lines of its output are those of the figure's matrices. Assumes nothing.
+-- `program::show` meets its contract: the frame is accepted, so its output has the figure's matrices. Assumes nothing.
 use Prim.Native.Nat.{_≤_}
 use native.Mathlib.Omega.{arith}
 use lib.Ieee.{ofBits}
 use borrow.Author.Needs.{needs}
 use Rattle.model.specs.Plan.{maxJoints}
-use Rattle.printing.proofs.Laws.{text-written}
+use Rattle.printing.proofs.Laws.{front-written}
 use Rattle.program.proofs.Laws.{few-shown, frame-lines}
 use Rattle.program.proofs.show.Statement.{statement}
 use Rattle.program.proofs.show.Tie as tie
 
 few-joints : (c : tie.After-word) → c .word .result ≤ maxJoints
-few-joints c = rw (c .word .ensures .0) (few-shown _ _ (c .before .before .before .before .before .before .before .before .pre .0))
+few-joints c =
+    let started = c .before .before .before .before .before .before .before .before .pre .0 in
+    rw (c .word .ensures .0) (few-shown _ _ started)
 
 put-joints-requires : tie.Need-put-joints-requires
 put-joints-requires c κs =
@@ -28,7 +30,17 @@ returns c =
     let f = w .before .before .before in
     let a = f .before .before .before .before .before in
     let few = few-joints w in
-    rw (frame-lines _ _ (a .pre .0) _ _ _ _ _ (a .pre .1) (w .word .ensures .0) (search needs) (f .frame .ensures)) at (text-written (p .put-joints .ensures .0) (omega arith))
+    rw (frame-lines _ _ (a .pre .0) _ _ _ _ _ (a .pre .1) (w .word .ensures .0) (search needs) (f .frame .ensures))
+    at (front-written (p .put-joints .ensures .0) (omega arith))
 
 pub show-spec : {M : Type 1} → statement M
-show-spec = tie.close (tie.spec (search needs) (search needs) (search needs) (search needs) put-joints-requires (search needs) returns)
+show-spec =
+    tie.close
+    (tie.spec
+    (search needs)
+    (search needs)
+    (search needs)
+    (search needs)
+    put-joints-requires
+    (search needs)
+    returns)

@@ -1,0 +1,2 @@
+-- What a figure prints
+pub mod Figure
