@@ -7,6 +7,9 @@ use Rattle.recorded_texts.proofs.print_answer.Tie as tie
 slice-aggregate-answer : tie.Need-slice-aggregate-answer
 slice-aggregate-answer c = sym (length-take-le _ _ (search needs))
 
+slice-aggregate-write-all : tie.Need-slice-aggregate-write-all
+slice-aggregate-write-all c = sym (length-take-le _ _ (search needs))
+
 pub print-answer-spec : {M : Type 1} → statement M
 print-answer-spec =
     tie.close
@@ -14,6 +17,6 @@ print-answer-spec =
     slice-aggregate-answer
     (search needs)
     (search needs)
-    (search needs)
+    slice-aggregate-write-all
     (search needs)
     (search needs))

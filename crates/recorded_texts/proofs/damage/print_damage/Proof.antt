@@ -7,6 +7,12 @@ use Rattle.recorded_texts.proofs.damage.print_damage.Tie as tie
 slice-aggregate-answer : tie.Need-slice-aggregate-answer
 slice-aggregate-answer c = sym (length-take-le _ _ (search needs))
 
+slice-aggregate-hash : tie.Need-slice-aggregate-hash
+slice-aggregate-hash c = sym (length-take-le _ _ (search needs))
+
+slice-aggregate-print-change : tie.Need-slice-aggregate-print-change
+slice-aggregate-print-change c = sym (length-take-le _ _ (search needs))
+
 pub print-damage-spec : {M : Type 1} → statement M
 print-damage-spec =
     tie.close
@@ -14,10 +20,10 @@ print-damage-spec =
     slice-aggregate-answer
     (search needs)
     (search needs)
+    slice-aggregate-hash
     (search needs)
     (search needs)
-    (search needs)
-    (search needs)
+    slice-aggregate-print-change
     (search needs)
     (search needs)
     (search needs))
