@@ -1,2 +1,2 @@
--- How long rows and answers are
+-- How many words rows and answers have
 pub mod Sizes

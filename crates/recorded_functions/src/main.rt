@@ -6,8 +6,8 @@ mod text;
 use answer::MAX_OPERANDS;
 use answer::answer_to;
 use answer::operand_count;
-use libc::STDIN_FILENO;
 use libc::STDOUT_FILENO;
+use test_io::read_front;
 use text::ROW_SIZE;
 use text::WORD_SIZE;
 use text::parse;
@@ -27,8 +27,7 @@ fn read_operands(letter: u8, words: &mut [u32; MAX_OPERANDS]) -> bool {
         return false;
     }
     let size = WORD_SIZE * count + 1;
-    let n = io::read_full(STDIN_FILENO, &mut row[..size]);
-    if n != size {
+    if !read_front(&mut row, size) {
         return false;
     }
     parse(&row, count, words)
@@ -37,7 +36,7 @@ fn read_operands(letter: u8, words: &mut [u32; MAX_OPERANDS]) -> bool {
 // False at the end of the input, at a malformed row, and where the answer cannot be written.
 fn answer_row(row: u64) -> bool {
     let mut letter = [0u8; 1];
-    if io::read_full(STDIN_FILENO, &mut letter) == 0 {
+    if !read_front(&mut letter, 1) {
         return false;
     }
     let mut words = [0u32; MAX_OPERANDS];

@@ -1,28 +1,25 @@
--- `recorded_functions::text::print_words` is safe: the line's bytes hold what is printed. Assumes nothing.
-use native.Mathlib.Omega.{arith}
-use Prim.Native.Nat.{_*_, _-_}
-use mathlib.Core.Path.{sym}
-use lib.ListN.{length-set}
-use lib.Seq.{length-take-le}
+-- `recorded_functions::text::print_words` is safe and ends: the line has room for every word, and an LF. Assumes nothing.
 use borrow.Author.Needs.{needs}
-use Rattle.recorded_functions.specs.Sizes.{wordSize}
+use Prim.Native.Nat.{_≤_, _-_, _+_, _*_}
+use mathlib.Core.Path.{_≡_}
+use lib.ListN.{length}
+use Rattle.model.specs.Program.{numberBytes}
+use Rattle.recorded_functions.specs.Sizes.{maxWords}
 use Rattle.recorded_functions.proofs.text.print_words.Statement.{statement}
 use Rattle.recorded_functions.proofs.text.print_words.Tie as tie
 
-array-share-prefix-line : tie.Need-array-share-prefix-line
-array-share-prefix-line c =
-    let n = c .before .before .before .args .count in
-    omega (arith, length-set (c .joined .result) (wordSize * n - 1) 10, c .joined .ensures)
+abbrev Inv-loop : tie.InvT-loop
+Inv-loop count words line₀ i₀ line i = (i ≤ count) × (length line ≡ numberBytes * maxWords + 1)
 
-slice-aggregate-write-all : tie.Need-slice-aggregate-write-all
-slice-aggregate-write-all c =
-    let n = c .before .before .before .before .args .count in
-    sym (length-take-le _ _ (omega (arith, length-set (c .before .joined .result) (wordSize * n - 1) 10, c .before .joined .ensures)))
+abbrev μ-loop : tie.MeasureT-loop
+μ-loop count words line₀ i₀ line i = count - i
 
 pub print-words-spec : {M : Type 1} → statement M
 print-words-spec =
     tie.close
     (tie.spec
+    Inv-loop
+    μ-loop
     (search needs)
     (search needs)
     (search needs)
@@ -30,7 +27,15 @@ print-words-spec =
     (search needs)
     (search needs)
     (search needs)
-    array-share-prefix-line
-    slice-aggregate-write-all
+    (search needs)
+    (search needs)
+    (search needs)
+    (search needs)
+    (search needs)
+    (search needs)
+    (search needs)
+    (search needs)
+    (search needs)
+    (search needs)
     (search needs)
     (search needs))
