@@ -16,7 +16,10 @@ use Rattle.model.specs.Check.{within}
 use Rattle.model.specs.Laws.Digits.{run-length, numeral-small}
 use Rattle.model.specs.Text.{front, digit, digitCount, numeral, baseOf, isField, none, field, fieldIn}
 use Rattle.fields.specs.Counted.{Counted}
-use Rattle.fields.specs.Wide.{hexadecimalIn}
+use Rattle.fields.specs.Found.{fieldAt, found}
+use Rattle.fields.specs.Wide.{hexadecimalAt, wideBitsIn, wideBitsAt}
+use Rattle.fields.specs.declared.Field.{Field}
+use Rattle.fields.specs.declared.Field.the-variants.{Value, Nothing}
 
 -- ---- a digit
 
@@ -121,24 +124,24 @@ module _ (form : FieldForm) (s : List ℕ) (at end : ℕ) (ends : end ≡ at + d
   digits : end - at ≡ digitCount (baseOf form) (drop at s)
   digits = omega arith
 
-  no-field : isField form (end - at) (drop at s) ≡ false → none ≡ fieldIn form (drop at s)
-  unfolding fieldIn
+  no-field : isField form (end - at) (drop at s) ≡ false → Nothing ≡ fieldAt form s at
+  unfolding fieldAt
   no-field e = rw (← digits, e)
 
   is-field : (v : ℕ) → v ≡ numeral (baseOf form) (end - at) (drop at s) → isField form (end - at) (drop at s) ≡ true
-      → field v (drop end s) ≡ fieldIn form (drop at s)
-  unfolding fieldIn
-  is-field v q e = let f : at + (end - at) ≡ end = omega arith in rw (← digits, e, q, drop-drop, f)
+      → Value v end ≡ fieldAt form s at
+  unfolding fieldAt
+  is-field v q e = let f : at + (end - at) ≡ end = omega arith in rw (← digits, e, q, f)
 
 module _ (limit : ℕ) (s : List ℕ) (at end : ℕ) (ends : end ≡ at + digitCount 10 (drop at s)) where
   head : front (drop at s) ≡ getD s at 0
   head = let e : at + 0 ≡ at = omega arith in rw (getD-drop, e)
 
-  pub decimal-none : end ≡ at → none ≡ fieldIn (Decimal limit) (drop at s)
+  pub decimal-none : end ≡ at → Nothing ≡ fieldAt (Decimal limit) s at
   unfolding isField
   decimal-none e = no-field (Decimal limit) s at end ends (simp (lt-leb 1 (end - at) (omega arith)))
 
-  pub decimal-leads : at + 1 < end → getD s at 0 ≡ 48 → none ≡ fieldIn (Decimal limit) (drop at s)
+  pub decimal-leads : at + 1 < end → getD s at 0 ≡ 48 → Nothing ≡ fieldAt (Decimal limit) s at
   unfolding isField
   decimal-leads l z =
       no-field (Decimal limit) s at end ends (simp (le-leb 1 (end - at) (omega arith), ne-eqb (end - at) 1 (λ e. omega arith), eq-eqb _ 48 (head ∙ z)))
@@ -149,30 +152,51 @@ module _ (limit : ℕ) (s : List ℕ) (at end : ℕ) (ends : end ≡ at + digitC
     unfolding isField
     decides = simp (le-leb 1 (end - at) (omega arith), no-zero-leads (end - at) (front (drop at s)) (λ z. omega (arith, leads (sym head ∙ z))))
 
-    pub decimal-above : limit < numeral 10 (end - at) (drop at s) → none ≡ fieldIn (Decimal limit) (drop at s)
+    pub decimal-above : limit < numeral 10 (end - at) (drop at s) → Nothing ≡ fieldAt (Decimal limit) s at
     decimal-above l = no-field (Decimal limit) s at end ends (decides ∙ lt-leb _ limit l)
 
-    pub decimal-reads : (v : ℕ) → v ≤ limit → v ≡ numeral 10 (end - at) (drop at s) → field v (drop end s) ≡ fieldIn (Decimal limit) (drop at s)
+    pub decimal-reads : (v : ℕ) → v ≤ limit → v ≡ numeral 10 (end - at) (drop at s) → Value v end ≡ fieldAt (Decimal limit) s at
     decimal-reads v l e = is-field (Decimal limit) s at end ends v e (decides ∙ le-leb _ limit (omega (arith, e)))
 
 -- ---- float bits: a run of just so many digits
 
 -- the run's own length, or the count that is asked for
-pub bits-form : (s : List ℕ) → fieldIn Bits s ≡ hexadecimalIn 8 s
-unfolding fieldIn isField
-bits-form s = at (eqb (digitCount 16 s) 8) refl
+pub bits-form : (text : List ℕ) (at : ℕ) → fieldAt Bits text at ≡ hexadecimalAt 8 text at
+unfolding fieldAt isField
+bits-form text at = on (eqb k 8) refl
   where
-    at : (t : Bool) → eqb (digitCount 16 s) 8 ≡ t → cond t (field (numeral 16 (digitCount 16 s) s) (drop (digitCount 16 s) s)) none ≡ cond t (field (numeral 16 8 s) (drop 8 s)) none
-    at true e = let k : digitCount 16 s ≡ 8 = eqb-true _ _ e in rw k
-    at false e = refl
+    s : List ℕ
+    s = drop at text
+
+    k : ℕ
+    k = digitCount 16 s
+
+    on : (t : Bool) → eqb k 8 ≡ t → cond t (Value (numeral 16 k s) (at + k)) Nothing ≡ cond t (Value (numeral 16 8 s) (at + 8)) Nothing
+    on true e = rw (eqb-true k 8 e)
+    on false e = refl
 
 module _ (s : List ℕ) (at end : ℕ) (ends : end ≡ at + digitCount 16 (drop at s)) (n : ℕ) where
-  pub bits-none : (end - at ≡ n → ⊥) → none ≡ hexadecimalIn n (drop at s)
+  pub bits-none : (end - at ≡ n → ⊥) → Nothing ≡ hexadecimalAt n s at
   bits-none h = rw (ne-eqb (digitCount 16 (drop at s)) n (λ e. h (omega arith)))
 
-  pub bits-read : (most v : ℕ) → Counted 16 most (end - at) (drop at s) v → 16 ^ (n - 1) ≤ most + 1 → end - at ≡ n → field v (drop end s) ≡ hexadecimalIn n (drop at s)
+  pub bits-read : (most v : ℕ) → Counted 16 most (end - at) (drop at s) v → 16 ^ (n - 1) ≤ most + 1 → end - at ≡ n → Value v end ≡ hexadecimalAt n s at
   bits-read most v c p h =
       let f : at + n ≡ end = omega arith in
       let small : numeral 16 (n - 1) (drop at s) < 16 ^ (n - 1) = numeral-small 16 (drop at s) (n - 1) (omega arith) in
       let q : v ≡ numeral 16 n (drop at s) = exact 16 most (drop at s) n v (rw h at c) (omega arith) in
-      rw (eq-eqb (digitCount 16 (drop at s)) n (omega arith), drop-drop, f, q)
+      rw (eq-eqb (digitCount 16 (drop at s)) n (omega arith), f, q)
+
+-- ---- what is left of the text behind a field that was read
+
+behind : (text : List ℕ) (at v k : ℕ) (t : Bool) → found text (cond t (Value v (at + k)) Nothing) ≡ cond t (field v (drop k (drop at text))) none
+unfolding found
+behind text at v k true = rw drop-drop
+behind text at v k false = refl
+
+pub field-found : (form : FieldForm) (text : List ℕ) (at : ℕ) {r : Field} → r ≡ fieldAt form text at → found text r ≡ fieldIn form (drop at text)
+unfolding fieldAt fieldIn
+field-found form text at e = rw e (behind text at _ _ (isField form (digitCount (baseOf form) (drop at text)) (drop at text)))
+
+pub wide-found : (text : List ℕ) (at : ℕ) {r : Field} → r ≡ wideBitsAt text at → found text r ≡ wideBitsIn (drop at text)
+unfolding wideBitsAt wideBitsIn
+wide-found text at e = rw e (behind text at _ _ (eqb (digitCount 16 (drop at text)) 16))

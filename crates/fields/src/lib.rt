@@ -4,10 +4,10 @@ ghost use mathlib.Core.Path.{_≡_};
 ghost use mathlib.Core.Bool.{cond};
 ghost use Prim.Native.Nat.{ℕ, _+_, _-_, _<_, _≤_, _^_};
 ghost use lib.ListN.{length, getD, drop};
-ghost use Rattle.model.specs.Text.{digit, digitCount, fieldIn, begins};
+ghost use Rattle.model.specs.Text.{digit, digitCount, begins};
 ghost use Rattle.model.specs.declared.FieldForm.the-variants as FieldForm;
-ghost use Rattle.fields.specs.Found.{found};
-ghost use Rattle.fields.specs.Wide.{hexadecimalIn, wideBitsIn};
+ghost use Rattle.fields.specs.Found.{fieldAt};
+ghost use Rattle.fields.specs.Wide.{hexadecimalAt, wideBitsAt};
 ghost use Rattle.fields.specs.Counted.{Counted};
 
 const DECIMAL: usize = 10;
@@ -38,7 +38,9 @@ pub fn byte(text: &[u8], at: usize) -> u8
 // The length of a name if that stands at `at`, else 0; it stands inside the text.
 pub fn name_at(text: &[u8], at: usize, name: &[u8]) -> usize
     requires { ⌜ ((i : ℕ) → i < length (now name) → 1 ≤ getD (now name) i 0) ⌝ }
-    ensures { λ r. ⌜ r ≡ cond (begins (now (name .entry)) (drop at (now (text .entry)))) (length (now (name .entry))) 0 ⌝ }
+    ensures { λ r. ⌜
+        r ≡ cond (begins (now (name .entry)) (drop at (now (text .entry)))) (length (now (name .entry))) 0
+        ⌝ }
     ensures { λ r. ⌜ r ≤ length (now (text .entry)) - at ⌝ }
 {
     let mut i = 0;
@@ -78,10 +80,14 @@ struct Digits {
     end: usize,
 }
 
-// The run that begins at `at`. Once its number is above `most` it is not counted further, so that a long run cannot overflow.
+// The run that begins at `at`. Once its number is above `most` it is not counted further, so that a long run cannot
+// overflow.
 fn digits_at(text: &[u8], at: usize, base: usize, most: usize) -> Digits
     requires { ⌜ (1 ≤ base) × (base ≤ 16) × (most < 2 ^ 60) ⌝ }
-    ensures { λ r. ⌜ (r .end ≡ at + digitCount base (drop at (now (text .entry)))) × Counted base most (r .end - at) (drop at (now (text .entry))) (r .value) ⌝ }
+    ensures { λ r. ⌜
+        (r .end ≡ at + digitCount base (drop at (now (text .entry))))
+        × Counted base most (r .end - at) (drop at (now (text .entry))) (r .value)
+        ⌝ }
 {
     let mut value: usize = 0;
     let mut i = at;
@@ -99,7 +105,7 @@ fn digits_at(text: &[u8], at: usize, base: usize, most: usize) -> Digits
 }
 
 fn decimal_at(text: &[u8], at: usize, limit: u16) -> Field
-    ensures { λ r. ⌜ found (now (text .entry)) r ≡ fieldIn (FieldForm.Decimal limit) (drop at (now (text .entry))) ⌝ }
+    ensures { λ r. ⌜ r ≡ fieldAt (FieldForm.Decimal limit) (now (text .entry)) at ⌝ }
 {
     let most = limit as usize;
     let digits = digits_at(text, at, DECIMAL, most);
@@ -122,27 +128,27 @@ fn decimal_at(text: &[u8], at: usize, limit: u16) -> Field
 // The bits that so many digits write.
 fn bits_at(text: &[u8], at: usize, count: usize) -> Field
     requires { ⌜ 16 ^ (count - 1) ≤ 2 ^ 60 ⌝ }
-    ensures { λ r. ⌜ found (now (text .entry)) r ≡ hexadecimalIn count (drop at (now (text .entry))) ⌝ }
+    ensures { λ r. ⌜ r ≡ hexadecimalAt count (now (text .entry)) at ⌝ }
 {
     let digits = digits_at(text, at, HEXADECIMAL, MAX_FIFTEEN);
-    let end = digits.end;
-    if end - at != count {
+    let behind = digits.end;
+    if behind - at != count {
         return Field::Nothing;
     }
     let value = digits.value;
-    Field::Value { value, end }
+    Field::Value { value, end: behind }
 }
 
 // The bits of a 64-bit float.
 pub fn read_wide_bits(text: &[u8], at: usize) -> Field
-    ensures { λ r. ⌜ found (now (text .entry)) r ≡ wideBitsIn (drop at (now (text .entry))) ⌝ }
+    ensures { λ r. ⌜ r ≡ wideBitsAt (now (text .entry)) at ⌝ }
 {
     bits_at(text, at, WIDE_DIGITS)
 }
 
 // The field at a place of a text.
 pub fn read_field(text: &[u8], at: usize, form: FieldForm) -> Field
-    ensures { λ r. ⌜ found (now (text .entry)) r ≡ fieldIn form (drop at (now (text .entry))) ⌝ }
+    ensures { λ r. ⌜ r ≡ fieldAt form (now (text .entry)) at ⌝ }
 {
     match form {
         FieldForm::Decimal { limit } => decimal_at(text, at, limit),

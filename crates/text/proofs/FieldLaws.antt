@@ -2,21 +2,24 @@
 use Prim.Native.Nat.{ℕ, zero, suc, _+_, _-_, _≤_, _<_}
 use native.Mathlib.Nat.{sub-self, sub-zero}
 use native.Mathlib.Omega.{arith}
-use mathlib.Core.Path.{_≡_, refl, sym, ap, _∙_}
+use mathlib.Core.Path.{_≡_, refl, sym, ap, subst, _∙_}
 use mathlib.Core.Bool.{Bool, true, false, cond}
-use mathlib.Core.List.{List, [], _∷_, _++_, append-assoc, append-nil}
+use mathlib.Core.List.{List, [], _∷_}
 use lib.Dec.{T, leb, eqb, leb→le}
-use lib.ListN.{length, getD, take, drop, set, replicate, getD-replicate}
-use lib.Seq.{getD-take, getD-drop, drop-cons, drop-length, drop-drop, take-suc-set}
+use lib.ListN.{length, getD, take, drop, set, replicate, length-drop, getD-replicate}
+use lib.Seq.{getD-take, getD-drop, drop-nil, drop-cons, drop-length, drop-drop}
 use borrow.Author.Tests.{eq-eqb, ne-eqb}
 use Rattle.model.specs.declared.LineKind.{LineKind}
 use Rattle.model.specs.declared.LineKind.the-variants.{Figure, Joint, Clip, State, Node, Go, Pose}
 use Rattle.model.specs.declared.FieldForm.{FieldForm}
 use Rattle.model.specs.declared.FieldForm.the-variants.{Decimal, Bits}
-use Rattle.model.specs.Text.{comma, lineFeed, maxWord, none, field, Line, malformed, line, name, forms, fieldCount, formOf, withField, fieldThen, fieldIn, fieldsIn, begins, lineIn}
+use Rattle.model.specs.Text.{front, comma, lineFeed, digitCount, numeral, baseOf, isField, maxWord, none, field, name, forms, fieldCount, formOf}
+use Rattle.model.specs.Text.{Line, malformed, line, withField, fieldThen, fieldIn, fieldsIn, begins, lineIn}
 use Rattle.fields.proofs.Bytes.{front-at, positive, positive-at}
 use Rattle.text.specs.declared.lines.LineReading.{LineReading}
-use Rattle.text.specs.LineReading.{maxFields, withFields, lineOf, FieldStep}
+use Rattle.text.specs.declared.lines.LineEnd.the-variants.{At, Malformed}
+use Rattle.text.specs.LineFound.{maxFields, noValues, lineEnd, lineValues, LineFound}
+use Rattle.text.specs.LineReading.{stored, lineOf, FieldStep}
 
 -- ---- the kinds
 
@@ -58,10 +61,10 @@ module _ {kind is : LineKind} {k : ℕ} (n : ℕ) (e : kind ≡ is) where
 
 -- ---- fields
 
-one-more : (vs : List ℕ) (v : ℕ) (l : Line) → withFields vs (withField v l) ≡ withFields (vs ++ v ∷ []) l
+one-more : (k : ℕ) (array : List ℕ) (v : ℕ) (l : Line) → stored k array (withField v l) ≡ stored (suc k) (set array k v) l
 unfolding withField
-one-more vs v malformed = refl
-one-more vs v (line ws rest) = rw append-assoc
+one-more k array v malformed = refl
+one-more k array v (line vs rest) = refl
 
 -- b is the byte before field k, the first of those that are left
 module _ (kind : LineKind) (text : List ℕ) (at : ℕ) (before : LineReading) (some : 1 ≤ before .left) (few : before .left ≤ fieldCount kind)
@@ -94,33 +97,63 @@ module _ (kind : LineKind) (text : List ℕ) (at : ℕ) (before : LineReading) (
     unfolding fieldThen
     no-field h = stops (rw (goes, h))
 
-    pub field-goes : {value end : ℕ} → length (before .values) ≡ maxFields → fieldIn form (drop (at + 1) text) ≡ field value (drop end text)
+    pub field-goes : {value end : ℕ} → fieldIn form (drop (at + 1) text) ≡ field value (drop end text)
         → FieldStep kind text at before (record { values = set (before .values) i value; left = before .left - 1; end = end })
     unfolding lineOf fieldThen
-    field-goes {value} {end} places h =
-        let stored : k < length (before .values) = omega (arith, fields-few kind) in
+    field-goes h =
         let next : fieldCount kind - (before .left - 1) ≡ suc k = omega arith in
-        record { fewer = omega arith; same = rw (goes, h, one-more, next, place, take-suc-set (before .values) k value stored) }
+        record { fewer = omega arith; same = rw (goes, h, one-more, next, place) }
 
-none-before : (l : Line) → l ≡ withFields [] l
-none-before malformed = refl
-none-before (line ws rest) = refl
+-- ---- what `line_at` makes of a line
+
+pub malformed-found : (text old : List ℕ) {l : Line} → l ≡ malformed → LineFound text l Malformed old old
+unfolding lineEnd lineValues
+malformed-found text old e = rw e record { answer = refl; values = refl }
+
+abbrev values-of : Line → List ℕ
+values-of malformed = []
+values-of (line vs rest) = vs
+
+abbrev rest-of : Line → List ℕ
+rest-of malformed = []
+rest-of (line vs rest) = rest
+
+abbrev IsLine : Line → Type 0
+IsLine malformed = ⊥
+IsLine (line vs rest) = Unit {0}
+
+stored-malformed : (k : ℕ) (array : List ℕ) (l : Line) → stored k array l ≡ malformed → l ≡ malformed
+stored-malformed k array malformed e = refl
+stored-malformed k array (line vs rest) e = absurd (subst IsLine e tt)
+
+stored-found : (text old values : List ℕ) (end : ℕ) (l : Line) → end ≤ length text → stored 0 noValues l ≡ line values (drop end text)
+    → LineFound text l (At end) old values
+unfolding lineEnd lineValues
+stored-found text old values end malformed h e = absurd (subst IsLine (sym e) tt)
+stored-found text old values end (line vs rest) h e =
+    let far : length rest ≡ length (drop end text) = ap (λ l. length (rest-of l)) e in
+    let place : end ≡ length text - length rest = omega (arith, far, length-drop end text) in
+    record { answer = ap At place; values = sym (ap values-of e) }
 
 -- from a line of which nothing is read to one of which only the line feed may be left
-module _ (kind : LineKind) (text : List ℕ) (begun reading : LineReading) (all : begun .left ≡ fieldCount kind) (done : reading .left ≡ 0)
-    (same : lineOf kind text (reading .end) reading ≡ lineOf kind text (begun .end) begun) {b : ℕ} (is : b ≡ getD text (reading .end) 0) where
-  end-opened : fieldsIn (forms kind) (drop (begun .end) text)
-      ≡ withFields (take (fieldCount kind) (reading .values)) (cond (eqb b lineFeed) (line [] (drop (reading .end + 1) text)) malformed)
+module _ (kind : LineKind) (text old : List ℕ) (begun reading : LineReading) (all : begun .left ≡ fieldCount kind) (none : begun .values ≡ noValues)
+    (done : reading .left ≡ 0) (same : lineOf kind text (reading .end) reading ≡ lineOf kind text (begun .end) begun)
+    {b : ℕ} (is : b ≡ getD text (reading .end) 0) where
+  abbrev here : Line
+  here = fieldsIn (forms kind) (drop (begun .end) text)
+
+  end-opened : stored 0 noValues here
+      ≡ stored (fieldCount kind) (reading .values) (cond (eqb b lineFeed) (line [] (drop (reading .end + 1) text)) malformed)
   unfolding lineOf fieldsIn
   end-opened =
-      none-before _ ∙ sym (rw (all, done, sub-self, sub-zero) at same)
+      sym (rw (all, none, done, sub-self, sub-zero) at same)
       ∙ rw (drop-length (forms kind), front-at text (reading .end) is, drop-drop 1 (reading .end) text)
 
-  pub no-line-feed : (b ≡ lineFeed → ⊥) → fieldsIn (forms kind) (drop (begun .end) text) ≡ malformed
-  no-line-feed h = rw (end-opened, ne-eqb _ _ h)
+  pub no-line-feed : (b ≡ lineFeed → ⊥) → LineFound text here Malformed old old
+  no-line-feed h = malformed-found text old (stored-malformed 0 noValues here (rw (end-opened, ne-eqb _ _ h)))
 
-  pub fields-read : b ≡ lineFeed → fieldsIn (forms kind) (drop (begun .end) text) ≡ line (take (fieldCount kind) (reading .values)) (drop (reading .end + 1) text)
-  fields-read h = rw (end-opened, eq-eqb _ _ h, append-nil)
+  pub fields-read : b ≡ lineFeed → reading .end + 1 ≤ length text → LineFound text here (At (reading .end + 1)) old (reading .values)
+  fields-read h inside = stored-found text old (reading .values) (reading .end + 1) here inside (rw (end-opened, eq-eqb _ _ h))
 
 -- ---- a line, by the length r of its name where that stands
 
@@ -142,3 +175,63 @@ module _ (kind : LineKind) (text : List ℕ) (at : ℕ) {r : ℕ} (e : r ≡ con
   named-line h =
       let rest : ℕ → Line = λ n. fieldsIn (forms kind) (drop n (drop at text)) in
       named (begins (name kind) (drop at text)) (length (name kind)) r rest e h ∙ rw (drop-drop r at text)
+
+-- ---- what is left behind a line is the text from some place on
+
+abbrev LeftOf : List ℕ → Line → Type 0
+LeftOf text malformed = Unit {0}
+LeftOf text (line vs rest) = (n : ℕ) × (rest ≡ drop n text)
+
+left-with : (text : List ℕ) (v : ℕ) (l : Line) → LeftOf text l → LeftOf text (withField v l)
+unfolding withField
+left-with text v malformed p = p
+left-with text v (line vs rest) p = p
+
+-- the fields behind the first, from any place on
+abbrev LaterLeft : List FieldForm → List ℕ → Type 0
+LaterLeft fs text = (at : ℕ) → LeftOf text (fieldsIn fs (drop at text))
+
+field-left : (fs : List FieldForm) (text : List ℕ) → LaterLeft fs text → (at v n : ℕ) (t : Bool)
+    → LeftOf text (fieldThen (cond t (field v (drop n (drop at text))) none) (fieldsIn fs))
+unfolding fieldThen
+field-left fs text later at v n true = left-with text v (fieldsIn fs (drop n (drop at text))) (rw (drop-drop n at text) (later (at + n)))
+field-left fs text later at v n false = tt
+
+fields-left : (fs : List FieldForm) (text : List ℕ) → LaterLeft fs text
+unfolding fieldsIn fieldIn
+fields-left [] text at = on (eqb (front (drop at text)) lineFeed)
+  where
+    on : (t : Bool) → LeftOf text (cond t (line [] (drop 1 (drop at text))) malformed)
+    on true = (at + 1, drop-drop 1 at text)
+    on false = tt
+fields-left (form ∷ fs) text at =
+    let s = drop (at + 1) text in
+    let n = digitCount (baseOf form) s in
+    on (field-left fs text (fields-left fs text) (at + 1) (numeral (baseOf form) n s) n (isField form n s)) (eqb (front (drop at text)) comma)
+  where
+    after : Line
+    after = fieldThen (fieldIn form (drop 1 (drop at text))) (fieldsIn fs)
+
+    on : LeftOf text (fieldThen (fieldIn form (drop (at + 1) text)) (fieldsIn fs)) → (t : Bool) → LeftOf text (cond t after malformed)
+    on left true = rw (drop-drop 1 at text) left
+    on left false = tt
+
+line-left : (kind : LineKind) (text : List ℕ) (at : ℕ) → LeftOf text (lineIn kind (drop at text))
+unfolding lineIn
+line-left kind text at = on (begins (name kind) (drop at text))
+  where
+    on : (t : Bool) → LeftOf text (cond t (fieldsIn (forms kind) (drop (length (name kind)) (drop at text))) malformed)
+    on true = rw (drop-drop (length (name kind)) at text) (fields-left (forms kind) text (at + length (name kind)))
+    on false = tt
+
+-- a place by the length of what is left
+place-left : (text : List ℕ) (n : ℕ) → drop n text ≡ drop (length text - length (drop n text)) text
+place-left [] n = drop-nil n ∙ sym (drop-nil (0 - length {A = ℕ} (drop n [])))
+place-left (b ∷ s) zero = rw (sub-self (suc (length s)))
+place-left (b ∷ s) (suc n) =
+    let e : suc (length s) - length (drop n s) ≡ suc (length s - length (drop n s)) = omega (arith, length-drop n s) in
+    rw e (place-left s n)
+
+pub line-rest : (kind : LineKind) (text : List ℕ) (at : ℕ) {vs rest : List ℕ} → lineIn kind (drop at text) ≡ line vs rest
+    → rest ≡ drop (length text - length rest) text
+line-rest kind text at e = let p = subst (LeftOf text) e (line-left kind text at) in rw (p .1) (place-left text (p .0))

@@ -19,7 +19,7 @@ use Rattle.text.specs.declared.put.Progress.{Progress}
 use Rattle.text.specs.declared.put.Step.{Step}
 use Rattle.text.specs.declared.put.Step.the-variants.{Next, Malformed}
 use Rattle.text.specs.Figures.{sampled, readPoses, readMotion}
-use Rattle.text.specs.LineFound.{lineFound}
+use Rattle.text.specs.LineFound.{LineFound}
 use Rattle.text.specs.Steps.{InText, behindLine, withWord, LineAt, Put, ReadAs}
 use Rattle.text.proofs.lines.LineEnd.{the-type as end-type}
 use Rattle.text.proofs.put.Step.{the-type as step-type}
@@ -39,10 +39,10 @@ module _ (text : List ℕ) (r : Progress) (p : List ℕ) (n : List Float) where
 
 -- ---- a state: its counts stand in one line of the text, and apart in the plan
 
-pub state-stops : (text values : List ℕ) (r : Progress) (found : LineEnd) → lineFound text (take (fieldCount State) values) found (lineIn State (drop (r .at) text))
+pub state-stops : {text old values : List ℕ} (r : Progress) {found : LineEnd} → LineFound text (lineIn State (drop (r .at) text)) found old values
     → (p₀ p₁ : List ℕ) (n₀ n₁ : List Float) → tagOf end-type found ≡ 1 → ReadAs text r p₀ p₁ n₀ n₁ (Malformed (r .line + 1)) (readState (drop (r .at) text))
 unfolding ReadAs readState fromState
-state-stops text values r found told p₀ p₁ n₀ n₁ t = rw (line-bad State text values r found told t)
+state-stops r told p₀ p₁ n₀ n₁ t = rw (line-bad State r told t)
 
 module _ {text values : List ℕ} {r : Progress} {at : ℕ} (l : LineAt State text values r at) where
   abbrev nodes : ℕ

@@ -1,14 +1,14 @@
 -- How steps of a reading follow one another, over plain values. Assumes nothing.
 use borrow.Author.Needs.{needs}
 use Prim.Native.Nat.{ℕ, zero, suc, _+_, _-_, _≤_, _<_}
-use native.Mathlib.Nat.{add-zero, add-suc}
+use native.Mathlib.Nat.{zero-add, add-zero, add-suc}
 use native.Mathlib.Numerals.{add-one}
 use native.Mathlib.Omega.{arith}
 use mathlib.Core.Path.{_≡_, refl, subst, _∙_}
 use mathlib.Core.List.{List, [], _∷_, _++_, map-append}
 use lib.Ieee.{Float, binary32, ofBits}
 use lib.ListN.{length, drop, length-append, length-map}
-use lib.Seq.{sets}
+use lib.Seq.{sets, sets-eq}
 use denote.Enum.Declared.{tagOf}
 use Rattle.model.specs.Text.{Reading, bad, got, prefixed, andThen, times, floatsOf, readWords}
 use Rattle.text.specs.declared.put.Progress.{Progress}
@@ -19,6 +19,9 @@ use Rattle.text.specs.Steps.{InText, behindLine, withWord, Put, Moved, R
 use Rattle.text.proofs.put.Step.{the-type as step-type}
 
 -- ---- what is put
+
+pub at-front : {A : Type 0} (xs us : List A) → length us ≤ length xs → sets xs 0 us ≡ us ++ drop (length us) xs
+at-front xs us h = sets-eq us xs 0 (omega arith) ∙ rw zero-add
 
 module _ {ℓ} {A : Type ℓ} where
   -- stores behind those that were made before

@@ -1,48 +1,58 @@
 -- One line: its values by their forms, what is known of them, and the step that it makes. Assumes nothing.
-use Prim.Native.Nat.{ℕ, zero, suc, _+_, _*_, _≤_, _<_, _^_}
+use Prim.Native.Nat.{ℕ, zero, suc, _+_, _-_, _*_, _≤_, _<_, _^_}
 use native.Mathlib.Numerals.{add-one}
 use native.Mathlib.Omega.{arith}
-use mathlib.Core.Path.{_≡_, refl, ap, subst, _∙_}
+use mathlib.Core.Path.{_≡_, refl, sym, ap, subst, _∙_}
 use mathlib.Core.Bool.{Bool, true, false}
 use mathlib.Core.List.{List, [], _∷_, _++_}
 use lib.Ieee.{Float}
 use lib.ListN.{length, getD, take, drop, length-drop, length-take}
-use lib.Seq.{sets, length-take-le, take-suc, take-length, getD-take}
+use lib.Seq.{sets, length-take-le, take-suc, take-length, take-append-seam, getD-take}
 use lib.Dec.{T}
 use denote.Enum.Declared.{tagOf}
 use Rattle.model.specs.declared.LineKind.{LineKind}
 use Rattle.model.specs.declared.FieldForm.{FieldForm}
 use Rattle.model.specs.declared.FieldForm.the-variants.{Decimal, Bits}
-use Rattle.model.specs.Text.{front, maxWord, forms, fieldCount, formOf, lineIn, wordsIn, bitsIn, bad, got, fromLine, readLine, floatsOf}
+use Rattle.model.specs.Text.{front, maxWord, forms, fieldCount, formOf, Line, malformed, line, lineIn, wordsIn, bitsIn, bad, got, fromLine, readLine, floatsOf}
 use Rattle.model.specs.Laws.Text.{Bounded, LineLaw, line-law}
 use Rattle.text.specs.declared.lines.LineEnd.{LineEnd}
 use Rattle.text.specs.declared.lines.LineEnd.the-variants as end
 use Rattle.text.specs.declared.put.Progress.{Progress}
 use Rattle.text.specs.declared.put.Step.{Step}
 use Rattle.text.specs.declared.put.Step.the-variants.{Next, Malformed}
-use Rattle.text.specs.LineFound.{lineFound}
-use Rattle.text.specs.LineReading.{maxFields}
-use Rattle.text.proofs.FieldLaws.{fields-few}
+use Rattle.text.specs.LineFound.{maxFields, noValues, lineEnd, lineValues, LineFound}
+use Rattle.text.proofs.FieldLaws.{fields-few, line-rest}
 use Rattle.text.specs.Steps.{InText, behindLine, withWord, withNumber, Room, LineValues, LineAt, Put, Stays, valued, ReadAs}
 use Rattle.text.proofs.lines.LineEnd.{the-type as end-type}
-use Rattle.text.proofs.Laws.{put-more, put-nothing, put-word, put-behind}
+use Rattle.text.proofs.Laws.{at-front, put-more, put-nothing, put-word, put-behind}
 
 -- ---- what `line_at` found
 
-module _ (kind : LineKind) (text values : List ℕ) (r : Progress) (found : LineEnd) (told : lineFound text (take (fieldCount kind) values) found (lineIn kind (drop (r .at) text))) where
-  pub line-at : (at : ℕ) → InText text r → found ≡ end.At at → LineAt kind text values r at
-  unfolding lineFound
-  line-at at here e =
-      let l = subst (λ (f : LineEnd). lineFound text (take (fieldCount kind) values) f (lineIn kind (drop (r .at) text))) e told in
-      record { here = here; reading = l .reading; inside = l .inside }
+abbrev placeOf : LineEnd → ℕ
+placeOf (end.At n) = n
+placeOf end.Malformed = 0
+
+module _ (kind : LineKind) {text old values : List ℕ} (r : Progress) {found : LineEnd} (told : LineFound text (lineIn kind (drop (r .at) text)) found old values) where
+  pub line-at : {at : ℕ} → InText text r → found ≡ end.At at → LineAt kind text values r at
+  unfolding lineEnd lineValues
+  line-at {at} here e = of (lineIn kind (drop (r .at) text)) refl (sym e ∙ told .answer) (told .values)
+    where
+      of : (l : Line) → lineIn kind (drop (r .at) text) ≡ l → end.At at ≡ lineEnd text l → values ≡ lineValues l old → LineAt kind text values r at
+      of malformed is a v = absurd (omega (arith, ap (tagOf end-type) a))
+      of (line vs rest) is a v =
+          let place : at ≡ length text - length rest = ap placeOf a in
+          let few : length vs ≤ length noValues = omega (arith, line-law kind (drop (r .at) text) vs rest is .count, fields-few kind) in
+          let front : take (fieldCount kind) values ≡ vs =
+          rw (v, at-front noValues vs few, ← line-law kind (drop (r .at) text) vs rest is .count) (take-append-seam vs _) in
+          record { here = here; reading = rw (front, place, ← line-rest kind text (r .at) is) is; inside = omega (arith, place) }
 
   pub line-bad : tagOf end-type found ≡ 1 → readLine kind (drop (r .at) text) ≡ bad 1
-  unfolding lineFound readLine fromLine
-  line-bad t = at found t told
+  unfolding lineEnd readLine fromLine
+  line-bad t = of (lineIn kind (drop (r .at) text)) (told .answer)
     where
-      at : (f : LineEnd) → tagOf end-type f ≡ 1 → lineFound text (take (fieldCount kind) values) f (lineIn kind (drop (r .at) text)) → readLine kind (drop (r .at) text) ≡ bad 1
-      at (end.At n) t h = absurd (omega (arith, t))
-      at end.Malformed t h = rw h
+      of : (l : Line) → found ≡ lineEnd text l → fromLine kind l ≡ bad 1
+      of malformed a = refl
+      of (line vs rest) a = absurd (omega (arith, t, ap (tagOf end-type) a))
 
   pub line-stops : (p₀ p₁ : List ℕ) (n₀ n₁ : List Float) → tagOf end-type found ≡ 1 → ReadAs text r p₀ p₁ n₀ n₁ (Malformed (r .line + 1)) (readLine kind (drop (r .at) text))
   unfolding ReadAs

@@ -8,7 +8,6 @@ use mathlib.Core.List.{List, [], _∷_, _++_}
 use lib.Dec.{leb}
 use lib.Ieee.{Float, binary32, ofBits}
 use lib.ListN.{length, getD, drop, length-map}
-use lib.Seq.{sets, sets-eq}
 use borrow.Author.Tests.{le-leb, lt-leb}
 use Rattle.model.specs.declared.LineKind.the-variants.{Figure, Joint}
 use Rattle.model.specs.declared.Refusal.{Refusal}
@@ -21,7 +20,7 @@ use Rattle.text.specs.declared.put.Step.{Step}
 use Rattle.text.specs.declared.put.Step.the-variants.{Next, Malformed}
 use Rattle.text.specs.Figures.{begin, readPoses, readMotion, Judged}
 use Rattle.text.specs.Steps.{InText, LineAt, ReadAs}
-use Rattle.text.proofs.Laws.{goes}
+use Rattle.text.proofs.Laws.{at-front, goes}
 use Rattle.text.proofs.LineLaws.{word-at, line-read, line-values}
 
 abbrev refusal : ℕ → ℕ → Refusal
@@ -88,9 +87,6 @@ refused-11 text P N p₀ p₁ n₀ n₁ step line a e = of (readFigure text) ref
     of (bad n) r m = let l : line ≡ n = omega arith in record { answer = rw (r, l); plan = rw r; numbers = rw r }
 
 -- ---- the second pass, where there is room
-
-at-front : {A : Type 0} (xs us : List A) → length us ≤ length xs → sets xs 0 us ≡ us ++ drop (length us) xs
-at-front xs us h = sets-eq us xs 0 (omega arith) ∙ rw zero-add
 
 module _ (text P : List ℕ) (N : List Float) (words count : ℕ) (j : Judged words count (readFigure text)) where
   refused-12 : leb words (length P) && leb count (length N) ≡ false → TextRead text P P N N (answer.Refused (refusal 12 0))

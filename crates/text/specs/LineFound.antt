@@ -1,17 +1,31 @@
--- What the reader's enum says of a line. Definitions only.
-use Prim.Native.Nat.{ℕ, _≤_}
+-- What `line_at` makes of the line that stands at its place: its answer, and the array of values. Definitions only.
+use Prim.Native.Nat.{ℕ, _-_}
 use mathlib.Core.Path.{_≡_}
 use mathlib.Core.List.{List}
-use lib.ListN.{length, drop}
-use Rattle.model.specs.Text as Text
+use lib.ListN.{length, replicate}
+use lib.Seq.{sets}
+use Rattle.model.specs.Text.{Line, malformed, line}
 use Rattle.text.specs.declared.lines.LineEnd.{LineEnd}
 use Rattle.text.specs.declared.lines.LineEnd.the-variants.{At, Malformed}
 
--- the line's values, and that it ends inside the text
-pub record LineFound (text values : List ℕ) (end : ℕ) (read : Text.Line) : Type 0 where
-  pub reading : read ≡ Text.line values (drop end text)
-  pub inside : end ≤ length text
+-- the array has room for so many; it begins with zeros
+abbrev pub maxFields : ℕ
+maxFields = 8
 
-unfoldable pub lineFound : List ℕ → List ℕ → LineEnd → Text.Line → Type 0
-lineFound text values (At end) read = LineFound text values end read
-lineFound text values Malformed read = read ≡ Text.malformed
+abbrev pub noValues : List ℕ
+noValues = replicate maxFields 0
+
+-- the place behind the LF: as far from the text's end as what is left of it is long
+unfoldable pub lineEnd : List ℕ → Line → LineEnd
+lineEnd text malformed = Malformed
+lineEnd text (line vs rest) = At (length text - length rest)
+
+-- the fields' values and zeros behind them; of a malformed line none, and the array is as it was
+unfoldable pub lineValues : Line → List ℕ → List ℕ
+lineValues malformed old = old
+lineValues (line vs rest) old = sets noValues 0 vs
+
+-- both, from an array to another
+pub record LineFound (text : List ℕ) (read : Line) (end : LineEnd) (old new : List ℕ) : Type 0 where
+  pub answer : end ≡ lineEnd text read
+  pub values : new ≡ lineValues read old

@@ -16,11 +16,11 @@ use model::limits::MAX_WORD;
 ghost use mathlib.Core.Path.{_≡_};
 ghost use mathlib.Core.Bool.{cond};
 ghost use Prim.Native.Nat.{_-_, _<_, _≤_};
-ghost use lib.ListN.{length, set, take, drop};
+ghost use lib.ListN.{length, set, drop};
 ghost use Rattle.model.specs.Text.{name, begins, forms, fieldCount, formOf, fieldsIn, lineIn};
 ghost use Rattle.model.specs.declared.FieldForm.the-variants as FieldForm;
-ghost use Rattle.text.specs.LineFound.{lineFound};
-ghost use Rattle.text.specs.LineReading.{maxFields, lineOf, FieldStep};
+ghost use Rattle.text.specs.LineFound.{maxFields, LineFound};
+ghost use Rattle.text.specs.LineReading.{lineOf, FieldStep};
 
 // No line has more fields.
 pub const MAX_FIELDS: usize = 8;
@@ -180,7 +180,10 @@ fn next<'a>(fields: Fields<'a>, kind: LineKind, reading: LineReading) -> LineRea
 // The fields that are left, read through one cursor.
 fn read_fields(text: &[u8], kind: LineKind, begun: LineReading) -> LineReading
     requires { ⌜ begun .left ≤ fieldCount kind ⌝ }
-    ensures { λ r. ⌜ (r .left ≡ 0) × (lineOf kind (now (text .entry)) (r .end) r ≡ lineOf kind (now (text .entry)) (begun .end) begun) ⌝ }
+    ensures { λ r. ⌜
+        (r .left ≡ 0)
+        × (lineOf kind (now (text .entry)) (r .end) r ≡ lineOf kind (now (text .entry)) (begun .end) begun)
+        ⌝ }
 {
     let mut cursor = Fields {
         text,
@@ -196,7 +199,10 @@ fn read_fields(text: &[u8], kind: LineKind, begun: LineReading) -> LineReading
 
 // The fields from `at` on, and the line's end.
 fn fields_at(text: &[u8], at: usize, kind: LineKind, values: &mut [usize; MAX_FIELDS]) -> LineEnd
-    ensures { λ r. ⌜ lineFound (now (text .entry)) (take (fieldCount kind) (now (values .exit))) r (fieldsIn (forms kind) (drop at (now (text .entry)))) ⌝ }
+    ensures { λ r. ⌜
+        LineFound (now (text .entry)) (fieldsIn (forms kind) (drop at (now (text .entry))))
+        r (now (values .entry)) (now (values .exit))
+        ⌝ }
 {
     let begun = LineReading {
         values: [0; MAX_FIELDS],
@@ -214,7 +220,10 @@ fn fields_at(text: &[u8], at: usize, kind: LineKind, values: &mut [usize; MAX_FI
 }
 
 pub fn line_at(text: &[u8], at: usize, kind: LineKind, values: &mut [usize; MAX_FIELDS]) -> LineEnd
-    ensures { λ r. ⌜ lineFound (now (text .entry)) (take (fieldCount kind) (now (values .exit))) r (lineIn kind (drop at (now (text .entry)))) ⌝ }
+    ensures { λ r. ⌜
+        LineFound (now (text .entry)) (lineIn kind (drop at (now (text .entry))))
+        r (now (values .entry)) (now (values .exit))
+        ⌝ }
 {
     let length = kind_at(text, at, kind);
     if length == 0 {

@@ -14,7 +14,7 @@ ghost use lib.ListN.{drop};
 ghost use lib.Seq.{sets};
 ghost use Rattle.model.specs.Text.{maxWord, forms, wordsIn, bitsIn, readLine, times, floatsOf};
 ghost use Rattle.model.specs.Laws.Text.{Bounded};
-ghost use Rattle.text.specs.LineReading.{maxFields};
+ghost use Rattle.text.specs.LineFound.{maxFields};
 ghost use Rattle.text.specs.Steps.{InText, withWord, withNumber, behindLine, Room, Put, Stays, LineValues, valued, ReadAs};
 
 // The place in the text, and how many lines, words and numbers stand before it.

@@ -1,17 +1,14 @@
 -- `fields::bits_at` meets its contract. Assumes nothing.
 use borrow.Author.Needs.{needs}
 use native.Mathlib.Omega.{arith}
-use Rattle.fields.specs.Found.{found}
 use Rattle.fields.proofs.Laws.{bits-none, bits-read}
 use Rattle.fields.proofs.bits_at.Statement.{statement}
 use Rattle.fields.proofs.bits_at.Tie as tie
 
 returns : tie.Need-returns
-unfolding found
 returns c = bits-none _ _ _ (c .before .digits-at .ensures .0) _ (c .if1 .taken)
 
 returns-2 : tie.Need-returns-2
-unfolding found
 returns-2 c =
     let d = c .before .digits-at .ensures in
     bits-read _ _ _ (d .0) _ _ _ (d .1) (omega (arith, c .before .before .before .pre)) (c .if1 .left)

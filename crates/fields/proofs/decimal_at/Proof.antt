@@ -3,14 +3,12 @@ use native.Mathlib.Omega.{arith}
 use mathlib.Core.Logic.{⊎-elim}
 use mathlib.Core.Path.{_≡_}
 use lib.ListN.{getD}
-use Rattle.fields.specs.Found.{found}
 use Rattle.fields.proofs.Laws.{run-inside, counted, above, decimal-none, decimal-leads, decimal-above, decimal-reads}
 use borrow.Author.Needs.{needs}
 use Rattle.fields.proofs.decimal_at.Statement.{statement}
 use Rattle.fields.proofs.decimal_at.Tie as tie
 
 returns : tie.Need-returns
-unfolding found
 returns c = decimal-none _ _ _ _ (c .before .digits-at .ensures .0) (c .if1 .taken)
 
 shared-slice-read-if2 : tie.Need-shared-slice-read-if2
@@ -20,7 +18,6 @@ shared-slice-read-if2 c =
     omega (arith, run-inside 10 (args .text .now) (args .at) (r .digits-at .result .end) (r .digits-at .ensures .0) (omega arith))
 
 returns-2 : tie.Need-returns-2
-unfolding found
 returns-2 c = decimal-leads _ _ _ _ (c .before .before .before .before .digits-at .ensures .0) (omega arith) (c .before .if2 .taken)
 
 -- past the `if` no zero leads, whichever way control came
@@ -29,7 +26,6 @@ leads : (c : tie.Joined2) → let r = c .before .before .before in let args = r 
 leads c z = ⊎-elim (λ w. omega arith) (λ w. omega arith) (c .if2 .came)
 
 returns-3 : tie.Need-returns-3
-unfolding found
 returns-3 c =
     let j = c .before in
     let e = j .before .before in
@@ -37,7 +33,6 @@ returns-3 c =
     decimal-above _ _ _ _ (d .ensures .0) (e .if1 .left) (leads j) (above 10 _ _ _ _ (d .ensures .1) (omega arith) (c .if4 .taken))
 
 returns-4 : tie.Need-returns-4
-unfolding found
 returns-4 c =
     let j = c .before in
     let e = j .before .before in

@@ -20,7 +20,7 @@ returns : tie.Need-returns
 returns c = rw (c .before .before .form .given .1) (c .decimal-at .ensures)
 
 returns-2 : tie.Need-returns-2
-returns-2 c = rw (c .before .enum-told .given .1) (c .bits-at .ensures ∙ sym (bits-form _))
+returns-2 c = rw (c .before .enum-told .given .1) (c .bits-at .ensures ∙ sym (bits-form _ _))
 
 pub read-field-spec : {M : Type 1} → statement M
 read-field-spec =

@@ -12,15 +12,10 @@ use Rattle.text.proofs.figure.read_state.Tie as tie
 -- past the first `else` there is a line
 known : (c : tie.After-known-told) → let l = c .before .before .before in let a = l .before .before .before .before .before .args in
     LineAt State (a .text .now) (l .line-at .last .1 .1 .1 .0) (a .from) (c .before .found .given .0 .0)
-known c =
-    let l = c .before .before .before in
-    let s = l .before .before .before .before .before in
-    line-at _ _ (l .line-at .last .1 .1 .1 .0) (s .args .from) _ (l .line-at .ensures) _ (s .pre) (c .before .found .given .1)
+known c = let l = c .before .before .before in line-at State _ (l .line-at .ensures) (l .before .before .before .before .before .pre) (c .before .found .given .1)
 
 returns : tie.Need-returns
-returns c =
-    let l = c .before .before .before in
-    state-stops _ (l .line-at .last .1 .1 .1 .0) _ _ (l .line-at .ensures) _ _ _ _ (c .before .before .match .keys2)
+returns c = state-stops _ (c .before .before .before .line-at .ensures) _ _ _ _ (c .before .before .match .keys2)
 
 put-word-requires : tie.Need-put-word-requires
 put-word-requires c κs =

@@ -1,25 +1,13 @@
 -- `text::lines::field_at` meets its contract: a field is read, or nothing is left. Assumes nothing.
 use borrow.Author.Needs.{needs}
 use native.Mathlib.Omega.{arith}
-use mathlib.Core.Path.{_≡_, sym, ap, _∙_}
-use mathlib.Core.List.{List}
-use lib.ListN.{length, length-map}
-use mir.Val.{Val}
-use denote.Laws.{Is}
-use denote.Struct.Laws as LL
-use Rattle.text.specs.declared.lines.LineReading.{LineReading}
-use Rattle.text.specs.LineReading.{maxFields}
-use Rattle.text.proofs.lines.LineReading as R
-use Rattle.text.proofs.lines.LineReading.Laws as R′
+use mathlib.Core.Path.{sym, ap, _∙_}
 use Rattle.fields.specs.Found.{found}
 use Rattle.fields.proofs.Bytes.{inside}
+use Rattle.fields.proofs.Laws.{field-found}
 use Rattle.text.proofs.FieldLaws.{fields-few, no-comma, no-field, field-goes}
 use Rattle.text.proofs.lines.field_at.Statement.{statement}
 use Rattle.text.proofs.lines.field_at.Tie as tie
-
--- the array's length, as the struct's type has it
-values-length : (reading : LineReading) (vs : List Val) → Is R.the-row reading vs → length (reading .values) ≡ maxFields
-values-length reading vs is = sym (length-map (reading .values) _) ∙ LL.owed R.the-type R′.the-laws reading vs is .0 .1 .0 .1
 
 add-read-field : tie.Need-add-read-field
 add-read-field c =
@@ -38,8 +26,8 @@ returns c =
     let b = f .before .before in
     let a = b .before .before .before .before in
     rw (c .with-value .ensures)
-    (field-goes _ _ _ _ (a .pre .0) (a .pre .1) (b .byte .ensures) (f .before .if1 .taken) (f .field-form .ensures) (omega arith) (values-length (a .args .reading) _ (a .good .1 .1 .1 .0))
-    (sym (c .before .before .before .before .read-field .ensures) ∙ ap (found _) (c .before .before .field .given .1)))
+    (field-goes _ _ _ _ (a .pre .0) (a .pre .1) (b .byte .ensures) (f .before .if1 .taken) (f .field-form .ensures) (omega arith)
+    (sym (field-found _ _ _ (c .before .before .before .before .read-field .ensures)) ∙ ap (found _) (c .before .before .field .given .1)))
 
 returns-2 : tie.Need-returns-2
 unfolding found
@@ -48,7 +36,7 @@ returns-2 c =
     let b = f .before .before in
     let p = b .before .before .before .before .pre in
     no-field _ _ _ _ (p .0) (p .1) (b .byte .ensures) (f .before .if1 .taken) (f .field-form .ensures) (omega arith)
-    (sym (c .before .before .read-field .ensures) ∙ ap (found _) (c .enum-told .given .1))
+    (sym (field-found _ _ _ (c .before .before .read-field .ensures)) ∙ ap (found _) (c .enum-told .given .1))
 
 returns-3 : tie.Need-returns-3
 returns-3 c =

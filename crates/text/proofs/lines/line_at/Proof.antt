@@ -1,15 +1,13 @@
 -- `text::lines::line_at` meets its contract: where no name was found its length is 0, which no name has. Assumes nothing.
 use borrow.Author.Needs.{needs}
-use Rattle.text.specs.LineFound.{lineFound}
-use Rattle.text.proofs.FieldLaws.{unnamed-line, named-line}
+use Rattle.text.proofs.FieldLaws.{malformed-found, unnamed-line, named-line}
 use Rattle.text.proofs.lines.line_at.Statement.{statement}
 use Rattle.text.proofs.lines.line_at.Tie as tie
 
 returns : tie.Need-returns
-unfolding lineFound
 returns c =
     let a = c .before .before .before .args in
-    unnamed-line (a .kind) (a .text .now) (a .at) (c .before .kind-at .ensures .0) (c .if1 .taken)
+    malformed-found _ _ (unnamed-line (a .kind) (a .text .now) (a .at) (c .before .kind-at .ensures .0) (c .if1 .taken))
 
 returns-2 : tie.Need-returns-2
 returns-2 c =

@@ -4,7 +4,7 @@ use Prim.Native.Nat.{ℕ, _≤_, _<_}
 use native.Mathlib.Omega.{arith}
 use mathlib.Core.Path.{_≡_, ap, sym}
 use lib.ListN.{set}
-use Rattle.text.specs.LineReading.{maxFields}
+use Rattle.text.specs.LineFound.{maxFields}
 use Rattle.text.proofs.lines.with_value.Statement.{statement}
 use Rattle.text.proofs.lines.with_value.Tie as tie
 

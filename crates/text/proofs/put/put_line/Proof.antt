@@ -6,7 +6,7 @@ use lib.ListN.{length}
 use lib.Seq.{length-sets}
 use native.Mathlib.Omega.{arith}
 use Rattle.model.specs.Text.{fieldCount}
-use Rattle.text.specs.LineReading.{maxFields}
+use Rattle.text.specs.LineFound.{maxFields}
 use Rattle.text.proofs.FieldLaws.{fields-few}
 use Rattle.text.proofs.LineLaws.{FirstPut, none-put, room-left, next-put, all-put}
 use Rattle.text.proofs.put.put_line.Statement.{statement}

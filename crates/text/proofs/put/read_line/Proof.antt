@@ -8,16 +8,11 @@ use Rattle.text.proofs.put.read_line.Tie as tie
 -- past the `else` there is a line
 known : (c : tie.After-known-told) → let l = c .before .before .before in let a = l .before .before .before .before .before .args in
     LineAt (a .kind) (a .text .now) (l .line-at .last .1 .1 .1 .0) (a .from) (c .before .found .given .0 .0)
-known c =
-    let l = c .before .before .before in
-    let s = l .before .before .before .before .before in
-    line-at _ _ (l .line-at .last .1 .1 .1 .0) (s .args .from) _ (l .line-at .ensures) _ (s .pre) (c .before .found .given .1)
+known c = let l = c .before .before .before in line-at _ _ (l .line-at .ensures) (l .before .before .before .before .before .pre) (c .before .found .given .1)
 
 returns : tie.Need-returns
 unfolding valued
-returns c =
-    let l = c .before .before .before in
-    (line-stops _ _ (l .line-at .last .1 .1 .1 .0) (l .before .before .before .before .before .args .from) _ (l .line-at .ensures) _ _ _ _ (c .before .before .match .keys2), tt)
+returns c = (line-stops _ _ (c .before .before .before .line-at .ensures) _ _ _ _ (c .before .before .match .keys2), tt)
 
 put-line-requires : tie.Need-put-line-requires
 put-line-requires c κs =
