@@ -1,4 +1,4 @@
--- The field at a place of a text, as the reader's enum has it; and what is left of the text behind it. Definitions only.
+-- The field at a place of a text as the reader's enum has it, and what is left of the text behind it. Definitions only.
 use Prim.Native.Nat.{ℕ, _+_}
 use mathlib.Core.Bool.{cond}
 use mathlib.Core.List.{List}

@@ -22,7 +22,8 @@ ended text r step read = (plan : List ℕ) → (numbers : List Float) → ReadAs
 -- `count` clip lines have one word each, and m is their sum
 unfoldable pub sampled : ℕ → ℕ → Reading → Type 0
 sampled count m (bad n) = Unit {0}
-sampled count m (got ws bs rest n) = (length ws ≡ count) × (m ≡ total (λ c. getD ws c 0) count) × (m ≤ count * maxSamples)
+sampled count m (got ws bs rest n) =
+    (length ws ≡ count) × (m ≡ total (λ c. getD ws c 0) count) × (m ≤ count * maxSamples)
 
 -- the last parts of readFigure, by their counts
 unfoldable pub readPoses : ℕ → List ℕ → Reading

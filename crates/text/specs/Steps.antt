@@ -6,7 +6,8 @@ use lib.ListN.{length, getD, take, drop}
 use lib.Seq.{sets}
 use lib.Ieee.{Float}
 use Rattle.model.specs.declared.LineKind.{LineKind}
-use Rattle.model.specs.Text.{fieldCount, formOf, line, lineIn, Reading, bad, got, floatsOf}
+use Rattle.model.specs.declared.FieldForm.{FieldForm}
+use Rattle.model.specs.Text.{fieldCount, formOf, wordsIn, bitsIn, line, lineIn, Reading, bad, got, floatsOf}
 use Rattle.model.specs.Laws.Text.{Bounded}
 use Rattle.text.specs.declared.put.Progress.{Progress}
 use Rattle.text.specs.declared.put.Step.{Step}
@@ -44,7 +45,8 @@ pub record LineValues (kind : LineKind) (values : List ℕ) : Type 0 where
   pub bounded : (k : ℕ) → k < fieldCount kind → Bounded (formOf kind k) (getD values k 0)
 
 -- From r to q: the words and the floats of the bits stand in the slices from r's counts on
-pub record Put (ws bs : List ℕ) (r q : Progress) (planOld planNew : List ℕ) (numbersOld numbersNew : List Float) : Type 0 where
+pub record Put (ws bs : List ℕ) (r q : Progress) (planOld planNew : List ℕ) (numbersOld numbersNew : List Float)
+    : Type 0 where
   pub words : q .words ≡ r .words + length ws
   pub numbers : q .numbers ≡ r .numbers + length bs
   pub plan : planNew ≡ sets planOld (r .words) ws
@@ -54,8 +56,15 @@ pub record Put (ws bs : List ℕ) (r q : Progress) (planOld planNew : List ℕ) 
 abbrev pub Stays : Progress → Progress → Type 0
 Stays r q = (q .at ≡ r .at) × (q .line ≡ r .line)
 
+-- From r to q: the values of fields of these forms are put, and the place is the same
+abbrev pub ValuesPut : List FieldForm → List ℕ → Progress → Progress → List ℕ → List ℕ → List Float → List Float
+    → Type 0
+ValuesPut fs vs r q planOld planNew numbersOld numbersNew =
+    Put (wordsIn fs vs) (bitsIn fs vs) r q planOld planNew numbersOld numbersNew × Stays r q
+
 -- From r to q: lines of the text are read, and put
-pub record Moved (text ws bs rest : List ℕ) (lines : ℕ) (r q : Progress) (planOld planNew : List ℕ) (numbersOld numbersNew : List Float) : Type 0 where
+pub record Moved (text ws bs rest : List ℕ) (lines : ℕ) (r q : Progress)
+    (planOld planNew : List ℕ) (numbersOld numbersNew : List Float) : Type 0 where
   pub left : rest ≡ drop (q .at) text
   pub inside : q .at ≤ length text
   pub spent : r .at + 3 * lines + 2 * length ws + 9 * length bs ≤ q .at
@@ -69,7 +78,13 @@ valued kind text values r (step.Malformed m) = Unit {0}
 
 -- what a step makes of a reading. After a bad line the slices are not spoken of
 unfoldable pub ReadAs : List ℕ → Progress → List ℕ → List ℕ → List Float → List Float → Step → Reading → Type 0
-ReadAs text r planOld planNew numbersOld numbersNew (step.Next q) (got ws bs rest n) = Moved text ws bs rest n r q planOld planNew numbersOld numbersNew
+ReadAs text r planOld planNew numbersOld numbersNew (step.Next q) (got ws bs rest n) =
+    Moved text ws bs rest n r q planOld planNew numbersOld numbersNew
 ReadAs text r planOld planNew numbersOld numbersNew (step.Next q) (bad n) = ⊥
 ReadAs text r planOld planNew numbersOld numbersNew (step.Malformed m) (got ws bs rest n) = ⊥
 ReadAs text r planOld planNew numbersOld numbersNew (step.Malformed m) (bad n) = m ≡ r .line + n
+
+-- the same of what a definition reads where r is in the text
+abbrev pub ReadBy : (List ℕ → Reading) → List ℕ → Progress → Step → List ℕ → List ℕ → List Float → List Float → Type 0
+ReadBy read text r step planOld planNew numbersOld numbersNew =
+    ReadAs text r planOld planNew numbersOld numbersNew step (read (drop (r .at) text))

@@ -20,7 +20,7 @@ ghost use Rattle.model.specs.Plan.{maxJoints, maxClips};
 ghost use Rattle.model.specs.Promises.{TextRead};
 ghost use Rattle.model.specs.Text.{readLine, readState, times, readEnd, readFigure};
 ghost use Rattle.model.specs.declared.LineKind.the-variants as LineKind;
-ghost use Rattle.text.specs.Steps.{InText, ReadAs};
+ghost use Rattle.text.specs.Steps.{InText, ReadBy};
 ghost use Rattle.text.specs.Figures.{sampled, ended, readPoses, readMotion, begin, Judged};
 
 // ---- states
@@ -28,7 +28,10 @@ ghost use Rattle.text.specs.Figures.{sampled, ended, readPoses, readMoti
 // The text has T beside K; the plan has it behind the nodes.
 fn read_state(text: &[u8], from: Progress, plan: &mut [u16], numbers: &mut [f32]) -> Step
     requires { ⌜ InText (now text) from ⌝ }
-    ensures { λ r. ⌜ ReadAs (now (text .entry)) from (now (plan .entry)) (now (plan .exit)) (now (numbers .entry)) (now (numbers .exit)) r (readState (drop (from .at) (now (text .entry)))) ⌝ }
+    ensures { λ r. ⌜
+        ReadBy readState (now (text .entry)) from r
+        (now (plan .entry)) (now (plan .exit)) (now (numbers .entry)) (now (numbers .exit))
+        ⌝ }
 {
     let mut values = [0usize; MAX_FIELDS];
     let found = line_at(text, from.at, LineKind::State, &mut values);
@@ -56,7 +59,10 @@ fn read_states(
     numbers: &mut [f32],
 ) -> Step
     requires { ⌜ InText (now text) from ⌝ }
-    ensures { λ r. ⌜ ReadAs (now (text .entry)) from (now (plan .entry)) (now (plan .exit)) (now (numbers .entry)) (now (numbers .exit)) r (times count readState (drop (from .at) (now (text .entry)))) ⌝ }
+    ensures { λ r. ⌜
+        ReadBy (times count readState) (now (text .entry)) from r
+        (now (plan .entry)) (now (plan .exit)) (now (numbers .entry)) (now (numbers .exit))
+        ⌝ }
 {
     let mut progress = from;
     let mut s = 0;
@@ -87,7 +93,11 @@ fn read_clips(
     numbers: &mut [f32],
 ) -> Clips
     requires { ⌜ InText (now text) from × (count ≤ maxClips) ⌝ }
-    ensures { λ r. ⌜ ReadAs (now (text .entry)) from (now (plan .entry)) (now (plan .exit)) (now (numbers .entry)) (now (numbers .exit)) (r .step) (times count (readLine LineKind.Clip) (drop (from .at) (now (text .entry)))) × sampled count (r .samples) (times count (readLine LineKind.Clip) (drop (from .at) (now (text .entry)))) ⌝ }
+    ensures { λ r. ⌜
+        ReadBy (times count (readLine LineKind.Clip)) (now (text .entry)) from (r .step)
+        (now (plan .entry)) (now (plan .exit)) (now (numbers .entry)) (now (numbers .exit))
+        × sampled count (r .samples) (times count (readLine LineKind.Clip) (drop (from .at) (now (text .entry))))
+        ⌝ }
 {
     let mut values = [0usize; MAX_FIELDS];
     let mut progress = from;
@@ -130,7 +140,10 @@ fn read_poses(
     numbers: &mut [f32],
 ) -> Step
     requires { ⌜ InText (now text) from ⌝ }
-    ensures { λ r. ⌜ ReadAs (now (text .entry)) from (now (plan .entry)) (now (plan .exit)) (now (numbers .entry)) (now (numbers .exit)) r (readPoses count (drop (from .at) (now (text .entry)))) ⌝ }
+    ensures { λ r. ⌜
+        ReadBy (readPoses count) (now (text .entry)) from r
+        (now (plan .entry)) (now (plan .exit)) (now (numbers .entry)) (now (numbers .exit))
+        ⌝ }
 {
     let step = read_lines(text, LineKind::Pose, count, from, plan, numbers);
     let Step::Next(behind) = step else {
@@ -155,7 +168,10 @@ fn read_motion(
     numbers: &mut [f32],
 ) -> Step
     requires { ⌜ InText (now text) from × (counts .joints ≤ maxJoints) × (counts .clips ≤ maxClips) ⌝ }
-    ensures { λ r. ⌜ ReadAs (now (text .entry)) from (now (plan .entry)) (now (plan .exit)) (now (numbers .entry)) (now (numbers .exit)) r (readMotion (counts .joints) (counts .clips) (counts .states) (drop (from .at) (now (text .entry)))) ⌝ }
+    ensures { λ r. ⌜
+        ReadBy (readMotion (counts .joints) (counts .clips) (counts .states)) (now (text .entry)) from r
+        (now (plan .entry)) (now (plan .exit)) (now (numbers .entry)) (now (numbers .exit))
+        ⌝ }
 {
     let clips_read = read_clips(text, counts.clips, from, plan, numbers);
     let clips_step = clips_read.step;
@@ -171,7 +187,10 @@ fn read_motion(
 }
 
 fn read_figure(text: &[u8], plan: &mut [u16], numbers: &mut [f32]) -> Step
-    ensures { λ r. ⌜ ReadAs (now (text .entry)) begin (now (plan .entry)) (now (plan .exit)) (now (numbers .entry)) (now (numbers .exit)) r (readFigure (now (text .entry))) ⌝ }
+    ensures { λ r. ⌜
+        ReadBy readFigure (now (text .entry)) begin r
+        (now (plan .entry)) (now (plan .exit)) (now (numbers .entry)) (now (numbers .exit))
+        ⌝ }
 {
     let begin = Progress {
         at: 0,
@@ -212,7 +231,11 @@ fn write_figure(
     numbers: &mut [f32],
 ) -> TextAnswer
     requires { ⌜ Judged words count (readFigure (now text)) ⌝ }
-    ensures { λ r. ⌜ TextRead (now (text .entry)) (now (plan .entry)) (now (plan .exit)) (now (numbers .entry)) (now (numbers .exit)) r ⌝ }
+    ensures { λ r. ⌜
+        TextRead (now (text .entry))
+        (now (plan .entry)) (now (plan .exit)) (now (numbers .entry)) (now (numbers .exit))
+        r
+        ⌝ }
 {
     if words <= plan.len() {
         if count <= numbers.len() {
@@ -231,7 +254,11 @@ fn write_figure(
 
 // The figure of a text, in the front of both slices; what follows there is kept. Refused, both keep their contents.
 pub fn read(text: &[u8], plan: &mut [u16], numbers: &mut [f32]) -> TextAnswer
-    ensures { λ r. ⌜ TextRead (now (text .entry)) (now (plan .entry)) (now (plan .exit)) (now (numbers .entry)) (now (numbers .exit)) r ⌝ }
+    ensures { λ r. ⌜
+        TextRead (now (text .entry))
+        (now (plan .entry)) (now (plan .exit)) (now (numbers .entry)) (now (numbers .exit))
+        r
+        ⌝ }
 {
     let judged = read_figure(text, &mut plan[..0], &mut numbers[..0]);
     match judged {

@@ -116,8 +116,8 @@ struct LineReading {
     end: usize,
 }
 
-// The values with one at place k. Each place is written by its number, so that the array can be kept in registers: a copy of one that lies in memory
-// waits for what was just written to it.
+// The values with one at place k. Each place is written by its number, so that the array can be kept in registers: a copy
+// of one that lies in memory waits for what was just written to it.
 fn with_value(values: [usize; MAX_FIELDS], k: usize, value: usize) -> [usize; MAX_FIELDS]
     requires { ⌜ k < maxFields ⌝ }
     ensures { λ r. ⌜ r ≡ set values k value ⌝ }
@@ -136,7 +136,8 @@ fn with_value(values: [usize; MAX_FIELDS], k: usize, value: usize) -> [usize; MA
     kept
 }
 
-// A comma and the first of the fields that are left. Where they do not stand nothing is left, and the place is the text's end, which is no line's end.
+// A comma and the first of the fields that are left. Where they do not stand nothing is left, and the place is the text's
+// end, which is no line's end.
 fn field_at(text: &[u8], at: usize, kind: LineKind, reading: LineReading) -> LineReading
     requires { ⌜ (1 ≤ reading .left) × (reading .left ≤ fieldCount kind) ⌝ }
     ensures { λ r. ⌜ FieldStep kind (now (text .entry)) at reading r ⌝ }
@@ -197,7 +198,7 @@ fn read_fields(text: &[u8], kind: LineKind, begun: LineReading) -> LineReading
     reading
 }
 
-// The fields from `at` on, and the line's end.
+// The fields from `at` on, and the line's end. Where they do not stand there the values are as they were.
 fn fields_at(text: &[u8], at: usize, kind: LineKind, values: &mut [usize; MAX_FIELDS]) -> LineEnd
     ensures { λ r. ⌜
         LineFound (now (text .entry)) (fieldsIn (forms kind) (drop at (now (text .entry))))

@@ -1,4 +1,5 @@
-// One line, or many of a kind, into the slices. A place past a slice's end is not written, so that slices of no length serve to judge a text.
+// One line, or many of a kind, into the slices. A place past a slice's end is not written, so that slices of no length
+// serve to judge a text.
 use crate::lines::LineEnd;
 use crate::lines::MAX_FIELDS;
 use crate::lines::field_count;
@@ -10,12 +11,12 @@ use model::LineKind;
 ghost use mathlib.Core.Path.{_≡_};
 ghost use mathlib.Core.List.{[], _∷_};
 ghost use Prim.Native.Nat.{_+_, _<_, _≤_, _^_};
-ghost use lib.ListN.{drop};
 ghost use lib.Seq.{sets};
-ghost use Rattle.model.specs.Text.{maxWord, forms, wordsIn, bitsIn, readLine, times, floatsOf};
+ghost use Rattle.model.specs.Text.{maxWord, forms, readLine, times, floatsOf};
 ghost use Rattle.model.specs.Laws.Text.{Bounded};
 ghost use Rattle.text.specs.LineFound.{maxFields};
-ghost use Rattle.text.specs.Steps.{InText, withWord, withNumber, behindLine, Room, Put, Stays, LineValues, valued, ReadAs};
+ghost use Rattle.text.specs.Steps.{InText, withWord, withNumber, behindLine, Room};
+ghost use Rattle.text.specs.Steps.{ValuesPut, LineValues, valued, ReadBy};
 
 // The place in the text, and how many lines, words and numbers stand before it.
 pub struct Progress {
@@ -34,7 +35,10 @@ pub enum Step {
 
 pub fn put_word(plan: &mut [u16], from: Progress, value: usize) -> Progress
     requires { ⌜ (value ≤ maxWord) × (from .words + 1 < 2 ^ 64) ⌝ }
-    ensures { λ r. ⌜ (r ≡ withWord from) × (now (plan .exit) ≡ sets (now (plan .entry)) (from .words) (value ∷ [])) ⌝ }
+    ensures { λ r. ⌜
+        (r ≡ withWord from)
+        × (now (plan .exit) ≡ sets (now (plan .entry)) (from .words) (value ∷ []))
+        ⌝ }
 {
     let at = from.words;
     if at < plan.len() {
@@ -50,7 +54,10 @@ pub fn put_word(plan: &mut [u16], from: Progress, value: usize) -> Progress
 
 fn put_number(numbers: &mut [f32], from: Progress, bits: usize) -> Progress
     requires { ⌜ (bits < 2 ^ 32) × (from .numbers + 1 < 2 ^ 64) ⌝ }
-    ensures { λ r. ⌜ (r ≡ withNumber from) × (now (numbers .exit) ≡ sets (now (numbers .entry)) (from .numbers) (floatsOf (bits ∷ []))) ⌝ }
+    ensures { λ r. ⌜
+        (r ≡ withNumber from)
+        × (now (numbers .exit) ≡ sets (now (numbers .entry)) (from .numbers) (floatsOf (bits ∷ [])))
+        ⌝ }
 {
     let at = from.numbers;
     if at < numbers.len() {
@@ -73,7 +80,10 @@ fn put_value(
     numbers: &mut [f32],
 ) -> Progress
     requires { ⌜ Bounded form value × Room 1 from ⌝ }
-    ensures { λ r. ⌜ Put (wordsIn (form ∷ []) (value ∷ [])) (bitsIn (form ∷ []) (value ∷ [])) from r (now (plan .entry)) (now (plan .exit)) (now (numbers .entry)) (now (numbers .exit)) × Stays from r ⌝ }
+    ensures { λ r. ⌜
+        ValuesPut (form ∷ []) (value ∷ []) from r
+        (now (plan .entry)) (now (plan .exit)) (now (numbers .entry)) (now (numbers .exit))
+        ⌝ }
 {
     match form {
         FieldForm::Decimal { limit } => put_word(plan, from, value),
@@ -90,7 +100,10 @@ fn put_line(
     numbers: &mut [f32],
 ) -> Progress
     requires { ⌜ LineValues kind (now values) × Room maxFields from ⌝ }
-    ensures { λ r. ⌜ Put (wordsIn (forms kind) (now (values .entry))) (bitsIn (forms kind) (now (values .entry))) from r (now (plan .entry)) (now (plan .exit)) (now (numbers .entry)) (now (numbers .exit)) × Stays from r ⌝ }
+    ensures { λ r. ⌜
+        ValuesPut (forms kind) (now (values .entry)) from r
+        (now (plan .entry)) (now (plan .exit)) (now (numbers .entry)) (now (numbers .exit))
+        ⌝ }
 {
     let count = field_count(kind);
     let mut progress = from;
@@ -127,7 +140,10 @@ pub fn read_line(
     numbers: &mut [f32],
 ) -> Step
     requires { ⌜ InText (now text) from ⌝ }
-    ensures { λ r. ⌜ ReadAs (now (text .entry)) from (now (plan .entry)) (now (plan .exit)) (now (numbers .entry)) (now (numbers .exit)) r (readLine kind (drop (from .at) (now (text .entry)))) ⌝ }
+    ensures { λ r. ⌜
+        ReadBy (readLine kind) (now (text .entry)) from r
+        (now (plan .entry)) (now (plan .exit)) (now (numbers .entry)) (now (numbers .exit))
+        ⌝ }
     ensures { λ r. ⌜ valued kind (now (text .entry)) (now (values .exit)) from r ⌝ }
 {
     let found = line_at(text, from.at, kind, values);
@@ -149,7 +165,10 @@ pub fn read_lines(
     numbers: &mut [f32],
 ) -> Step
     requires { ⌜ InText (now text) from ⌝ }
-    ensures { λ r. ⌜ ReadAs (now (text .entry)) from (now (plan .entry)) (now (plan .exit)) (now (numbers .entry)) (now (numbers .exit)) r (times count (readLine kind) (drop (from .at) (now (text .entry)))) ⌝ }
+    ensures { λ r. ⌜
+        ReadBy (times count (readLine kind)) (now (text .entry)) from r
+        (now (plan .entry)) (now (plan .exit)) (now (numbers .entry)) (now (numbers .exit))
+        ⌝ }
 {
     let mut values = [0usize; MAX_FIELDS];
     let mut progress = from;
