@@ -10,28 +10,28 @@ use std::path::{Path, PathBuf};
 
 const VARIABLE: &str = "SKELETAL_ANIMATION_SRC";
 const BESIDE: &str = "../shared/docs/src";
-const MODULES: [&str; 6] = [
-    "animation",
-    "blend_tree",
-    "controller",
-    "math",
-    "skeleton",
-    "transform",
-];
+
+/// The six files, a name a line. The gate (.ci/run) reads the same list and looks in the same places.
+const FILES: &str = include_str!("files.txt");
 
 /// The modules that have a child `access`, each in a file of `src/access`.
 const WITH_ACCESS: [&str; 2] = ["blend_tree", "controller"];
 
-/// The folder that holds all six files: `folder` itself or its `src`.
-fn sources_in(folder: &Path) -> Option<PathBuf> {
-    let candidates = [folder.join("src"), folder.to_path_buf()];
-    for candidate in candidates.iter() {
-        let has = |name: &&str| candidate.join(name).with_extension("rs").is_file();
-        if MODULES.iter().all(has) {
-            return candidate.canonicalize().ok();
+/// Those of the six files that are not in `folder`.
+fn lacking(folder: &Path) -> Vec<PathBuf> {
+    let paths = FILES.lines().map(|name| folder.join(name));
+    paths.filter(|path| !path.is_file()).collect()
+}
+
+/// The folder that holds all six files: the `src` of `folder`, or `folder` itself; or else what it lacks.
+fn sources_in(folder: &Path) -> Result<PathBuf, Vec<PathBuf>> {
+    let inner = folder.join("src");
+    for candidate in [inner.as_path(), folder].iter() {
+        if lacking(candidate).is_empty() {
+            return Ok(candidate.canonicalize().unwrap());
         }
     }
-    None
+    Err(lacking(if inner.is_dir() { &inner } else { folder }))
 }
 
 /// The module as an item of the crate: its file alone, or its file and the child `access`.
@@ -49,6 +49,7 @@ fn module(name: &str, path: &Path, manifest: &Path) -> String {
 
 fn main() {
     println!("cargo:rerun-if-changed=build.rs");
+    println!("cargo:rerun-if-changed=files.txt");
     println!("cargo:rerun-if-env-changed={}", VARIABLE);
     let manifest = PathBuf::from(env::var("CARGO_MANIFEST_DIR").unwrap());
     let repository = manifest.join("../..");
@@ -57,21 +58,21 @@ fn main() {
         Some(name) => repository.join(name),
         None => repository.join(BESIDE),
     };
-    let sources = sources_in(&folder).unwrap_or_else(|| {
+    let sources = sources_in(&folder).unwrap_or_else(|lacks| {
         eprintln!(
-            "skeletal_animation's six source files are not in {}. Name their folder in {}, \
+            "{} is not there. Name the folder of skeletal_animation's six source files in {}, \
              or put them at {} beside the repository's folder.",
-            folder.display(),
+            lacks[0].display(),
             VARIABLE,
             BESIDE
         );
         std::process::exit(1);
     });
     let mut list = String::new();
-    for name in MODULES.iter() {
-        let path = sources.join(name).with_extension("rs");
+    for file in FILES.lines() {
+        let path = sources.join(file);
         println!("cargo:rerun-if-changed={}", path.display());
-        list += &module(name, &path, &manifest);
+        list += &module(file.trim_end_matches(".rs"), &path, &manifest);
     }
     let out = Path::new(&env::var("OUT_DIR").unwrap()).join("modules.rs");
     fs::write(out, list).unwrap();
