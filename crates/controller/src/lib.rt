@@ -1,5 +1,5 @@
-// Ports controller.rs: the calls on a player. Each takes the player by value and returns it with its answer, but for `update_in_place`, which changes the
-// caller's; none asks anything of its caller.
+// Ports controller.rs: the calls on a player. Each takes the player by value and returns it with its answer, but for
+// `update_in_place`, which changes the caller's; none asks anything of its caller.
 use blend_tree::SLOTS;
 use blend_tree::StateAt;
 use blend_tree::synchronize::synchronize_state;
@@ -68,7 +68,11 @@ fn synchronize_states(
     instances: &mut [f32; MAX_INSTANCES],
 )
     requires { ⌜ Playable (now plan) (now numbers) layout × (now parameters ≡ replicate maxParameters 0f) ⌝ }
-    ensures { λ _. ⌜ now (instances .exit) ≡ synchronizeStates (now (plan .entry)) (now (numbers .entry)) (stateCount (now (plan .entry))) (now (instances .entry)) ⌝ }
+    ensures { λ _. ⌜
+        now (instances .exit)
+        ≡ synchronizeStates (now (plan .entry)) (now (numbers .entry)) (stateCount (now (plan .entry)))
+        (now (instances .entry))
+        ⌝ }
 {
     let mut slots = [0u8; SLOTS];
     let mut s = 0;
@@ -187,7 +191,9 @@ fn framed(
     ext: f64,
     output: &mut [f32],
 ) -> Outcome
-    ensures { λ r. ⌜ Framed kind (now (plan .entry)) (now (numbers .entry)) player ext (now (output .entry)) (now (output .exit)) r ⌝ }
+    ensures { λ r. ⌜
+        Framed kind (now (plan .entry)) (now (numbers .entry)) player ext (now (output .entry)) (now (output .exit)) r
+        ⌝ }
 {
     let transition = player.transition;
     let parts = Parts {
@@ -212,7 +218,9 @@ fn framed(
 }
 
 pub fn frame(plan: &[u16], numbers: &[f32], player: Player, ext: f64, output: &mut [f32]) -> Outcome
-    ensures { λ r. ⌜ Framed Ordinary (now (plan .entry)) (now (numbers .entry)) player ext (now (output .entry)) (now (output .exit)) r ⌝ }
+    ensures { λ r. ⌜
+        Framed Ordinary (now (plan .entry)) (now (numbers .entry)) player ext (now (output .entry)) (now (output .exit)) r
+        ⌝ }
 {
     framed(FrameKind::Ordinary, plan, numbers, player, ext, output)
 }
@@ -224,7 +232,9 @@ pub fn page_frame(
     ext: f64,
     output: &mut [f32],
 ) -> Outcome
-    ensures { λ r. ⌜ Framed Page (now (plan .entry)) (now (numbers .entry)) player ext (now (output .entry)) (now (output .exit)) r ⌝ }
+    ensures { λ r. ⌜
+        Framed Page (now (plan .entry)) (now (numbers .entry)) player ext (now (output .entry)) (now (output .exit)) r
+        ⌝ }
 {
     framed(FrameKind::Page, plan, numbers, player, ext, output)
 }

@@ -1,4 +1,5 @@
-// A frame and a page frame on the parts of a player, which their owner lends, so that nothing large is copied. `controller` has both on a player by value.
+// A frame and a page frame on the parts of a player, which their owner lends, so that nothing large is copied.
+// `controller` has both on a player by value.
 use blend_tree::StateAt;
 use float::narrow;
 use layout::JOINT_COUNT_AT;
@@ -24,15 +25,14 @@ use transitions::step;
 ghost use mathlib.Core.Path.{_≡_};
 ghost use mathlib.Core.Bool.{true};
 ghost use Prim.Native.Nat.{_<_, _≤_};
-ghost use lib.ListN.{length};
 ghost use Rattle.model.specs.declared.FrameKind.the-variants.{Ordinary};
 ghost use Rattle.model.specs.declared.Transition.the-variants as Transition;
-ghost use Rattle.model.specs.Plan.{maxJoints, jointCount, stateCount, outputAt};
+ghost use Rattle.model.specs.Plan.{maxJoints, stateCount};
 ghost use Rattle.model.specs.Controller.{isTargetBelow};
-ghost use Rattle.model.specs.Promises.{Framed};
 ghost use Rattle.layout.specs.Layout.{layoutOf, stateLayout, Passes, InPlan};
 ghost use Rattle.blend_tree.specs.Blocks.{Playable};
-ghost use Rattle.frames.specs.Parts.{moved, playerOf, outcomeOf, FrameAnswered, FramePlayed};
+ghost use Rattle.skeleton.specs.Buffer.{HasRoom};
+ghost use Rattle.frames.specs.Parts.{moved, playerOf, FramedParts, FrameAnswered, FramePlayed};
 
 // What a frame reads of a player beside its arrays.
 pub struct Parts {
@@ -64,7 +64,12 @@ fn is_target_below(n: usize, transition: Transition) -> bool
 
 // The layout of a state, which is often the one at hand.
 fn layout_of(plan: &[u16], layout: Layout, here: StateLayout, state: usize) -> StateLayout
-    requires { ⌜ Passes (now plan) × (layout ≡ layoutOf (now plan)) × InPlan (now plan) here × (state < stateCount (now plan)) ⌝ }
+    requires { ⌜
+        Passes (now plan)
+        × (layout ≡ layoutOf (now plan))
+        × InPlan (now plan) here
+        × (state < stateCount (now plan))
+        ⌝ }
     ensures { λ r. ⌜ r ≡ stateLayout (now (plan .entry)) state ⌝ }
 {
     if state == here.state {
@@ -97,8 +102,18 @@ fn play(
     ext: f64,
     output: &mut [f32],
 ) -> Stepped
-    requires { ⌜ Playable (now plan) (now numbers) layout × (parts .state < stateCount (now plan)) × (isTargetBelow (stateCount (now plan)) (parts .transition) ≡ true) × (outputAt (jointCount (now plan)) ≤ length (now output)) ⌝ }
-    ensures { λ r. ⌜ FramePlayed (now (plan .entry)) (now (numbers .entry)) (playerOf parts (now (parameters .entry)) (now (instances .entry))) ext (now (output .entry)) (now (output .exit)) (playerOf (moved parts (r .state) (r .transition)) (now (parameters .entry)) (now (instances .exit))) ⌝ }
+    requires { ⌜
+        Playable (now plan) (now numbers) layout
+        × (parts .state < stateCount (now plan))
+        × (isTargetBelow (stateCount (now plan)) (parts .transition) ≡ true)
+        × HasRoom (now plan) (now output)
+        ⌝ }
+    ensures { λ r. ⌜
+        FramePlayed (now (plan .entry)) (now (numbers .entry))
+        (playerOf parts (now (parameters .entry)) (now (instances .entry)))
+        ext (now (output .entry)) (now (output .exit))
+        (playerOf (moved parts (r .state) (r .transition)) (now (parameters .entry)) (now (instances .exit)))
+        ⌝ }
 {
     let clock = parts.clock;
     let speed = parts.speed;
@@ -168,7 +183,10 @@ fn ordinary_frame(
     ext: f64,
     output: &mut [f32],
 ) -> FrameParts
-    ensures { λ r. ⌜ Framed Ordinary (now (plan .entry)) (now (numbers .entry)) (playerOf parts (now (parameters .entry)) (now (instances .entry))) ext (now (output .entry)) (now (output .exit)) (outcomeOf parts r (now (parameters .entry)) (now (instances .exit))) ⌝ }
+    ensures { λ r. ⌜
+        FramedParts Ordinary (now (plan .entry)) (now (numbers .entry)) parts (now (parameters .entry)) ext
+        (now (instances .entry)) (now (instances .exit)) (now (output .entry)) (now (output .exit)) r
+        ⌝ }
 {
     let checked = check(plan, numbers.len());
     let Checked::Passed(layout) = checked else {
@@ -196,7 +214,8 @@ fn ordinary_frame(
     }
 }
 
-// A frame; of a page frame each matrix's upper 3×3 is then transposed. One function for both, so that the compiler can inline the work.
+// A frame; of a page frame each matrix's upper 3×3 is then transposed. One function for both, so that the compiler can
+// inline the work.
 pub fn frame(
     kind: FrameKind,
     plan: &[u16],
@@ -207,7 +226,10 @@ pub fn frame(
     ext: f64,
     output: &mut [f32],
 ) -> FrameParts
-    ensures { λ r. ⌜ Framed kind (now (plan .entry)) (now (numbers .entry)) (playerOf parts (now (parameters .entry)) (now (instances .entry))) ext (now (output .entry)) (now (output .exit)) (outcomeOf parts r (now (parameters .entry)) (now (instances .exit))) ⌝ }
+    ensures { λ r. ⌜
+        FramedParts kind (now (plan .entry)) (now (numbers .entry)) parts (now (parameters .entry)) ext
+        (now (instances .entry)) (now (instances .exit)) (now (output .entry)) (now (output .exit)) r
+        ⌝ }
 {
     let framed = ordinary_frame(plan, numbers, parts, parameters, instances, ext, output);
     let answer = framed.answer;

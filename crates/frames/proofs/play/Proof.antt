@@ -37,7 +37,7 @@ show-joint-requires c κs =
     let s = l .before .before .before .before in
     let below = still-below _ _ (player s) _ _ _ (l .state-layout .ensures) (t .step .ensures) (s .pre .0 .passed) (s .pre .1) (s .pre .2) in
     let single = g .is-single .ensures (x .if1 .taken) in
-    (s .pre .0, in-plan _ _ (h .layout-of .ensures) below, single .0, single .1, s .pre .3)
+    ((s .pre .0, in-plan _ _ (h .layout-of .ensures) below), single .0, single .1, s .pre .3)
 
 returns : tie.Need-returns
 unfolding nowAt elapsed
@@ -64,7 +64,7 @@ show-requires c κs =
     let s = l .before .before .before .before in
     let below = still-below _ _ (player s) _ _ _ (l .state-layout .ensures) (t .step .ensures) (s .pre .0 .passed) (s .pre .1) (s .pre .2) in
     let target = still-target _ _ (player s) _ _ _ (l .state-layout .ensures) (t .step .ensures) (s .pre .0 .passed) (s .pre .1) (s .pre .2) in
-    (s .pre .0, in-plan _ _ (h .layout-of .ensures) below, target, s .pre .3)
+    ((s .pre .0, in-plan _ _ (h .layout-of .ensures) below), target, s .pre .3)
 
 returns-2 : tie.Need-returns-2
 unfolding nowAt elapsed
