@@ -1,4 +1,5 @@
-// The static library: the calls for hosts in C and Rust. A player stays in the host's memory, as a flat struct. No call asks anything of its content.
+// The static library: the calls for hosts in C and Rust. A player stays in the host's memory, as a flat struct. No call
+// asks anything of its content.
 use host_player::HostAnswer;
 use host_player::HostParts;
 use host_player::HostPlayer;
@@ -20,7 +21,8 @@ ghost use Prim.Native.Nat.{_/_};
 ghost use Rattle.model.specs.declared.FrameKind.the-variants as Kind;
 ghost use Rattle.model.specs.Plan.{maxPlan, jointCount, outputAt};
 ghost use Rattle.model.specs.Program.{numberBytes};
-ghost use Rattle.host_player.specs.HostPromises.{HostStarted, HostUpdated, HostSpeedSet, HostParameterSet, HostFramed, HostTextRead};
+ghost use Rattle.host_player.specs.HostPromises.{HostStarted, HostUpdated, HostSpeedSet, HostParameterSet};
+ghost use Rattle.host_player.specs.HostPromises.{HostFramed, HostTextRead};
 
 // ---- start, update, speed, set
 
@@ -74,7 +76,10 @@ fn frame_in_place(
     ext: f64,
     output: &mut [f32],
 ) -> HostAnswer
-    ensures { λ r. ⌜ HostFramed kind (now (plan .entry)) (now (numbers .entry)) (now (player .entry)) ext (now (output .entry)) (now (output .exit)) (now (player .exit)) r ⌝ }
+    ensures { λ r. ⌜
+        HostFramed kind (now (plan .entry)) (now (numbers .entry)) (now (player .entry)) ext
+        (now (output .entry)) (now (output .exit)) (now (player .exit)) r
+        ⌝ }
 {
     let parts = HostParts {
         clock: (*player).clock,
@@ -113,7 +118,10 @@ pub extern "C" fn gentianlathe_frame(
     ext: f64,
     output: &mut [f32],
 ) -> HostAnswer
-    ensures { λ r. ⌜ HostFramed Kind.Ordinary (now (plan .entry)) (now (numbers .entry)) (now (player .entry)) ext (now (output .entry)) (now (output .exit)) (now (player .exit)) r ⌝ }
+    ensures { λ r. ⌜
+        HostFramed Kind.Ordinary (now (plan .entry)) (now (numbers .entry)) (now (player .entry)) ext
+        (now (output .entry)) (now (output .exit)) (now (player .exit)) r
+        ⌝ }
 {
     frame_in_place(FrameKind::Ordinary, plan, numbers, player, ext, output)
 }
@@ -126,7 +134,10 @@ pub extern "C" fn gentianlathe_page_frame(
     ext: f64,
     output: &mut [f32],
 ) -> HostAnswer
-    ensures { λ r. ⌜ HostFramed Kind.Page (now (plan .entry)) (now (numbers .entry)) (now (player .entry)) ext (now (output .entry)) (now (output .exit)) (now (player .exit)) r ⌝ }
+    ensures { λ r. ⌜
+        HostFramed Kind.Page (now (plan .entry)) (now (numbers .entry)) (now (player .entry)) ext
+        (now (output .entry)) (now (output .exit)) (now (player .exit)) r
+        ⌝ }
 {
     frame_in_place(FrameKind::Page, plan, numbers, player, ext, output)
 }
@@ -139,7 +150,10 @@ pub extern "C" fn gentianlathe_read_text(
     plan: &mut [u16],
     numbers: &mut [f32],
 ) -> HostTextAnswer
-    ensures { λ r. ⌜ HostTextRead (now (text .entry)) (now (plan .entry)) (now (plan .exit)) (now (numbers .entry)) (now (numbers .exit)) r ⌝ }
+    ensures { λ r. ⌜
+        HostTextRead (now (text .entry)) (now (plan .entry)) (now (plan .exit))
+        (now (numbers .entry)) (now (numbers .exit)) r
+        ⌝ }
 {
     host_text_answer(text::read(text, plan, numbers))
 }

@@ -1,4 +1,5 @@
-// A player and answers as hosts in C and Rust hold them, flat since their interface has no enums, and the calls on the parts of such a player.
+// A player and answers as hosts in C and Rust hold them, flat since their interface has no enums, and the calls on the
+// parts of such a player.
 // `capi` has the calls that hosts make, which only load and store what is theirs.
 use controller::set;
 use controller::speed;
@@ -18,7 +19,8 @@ ghost use mathlib.Core.Path.{_≡_};
 ghost use Rattle.model.specs.Answers.{values};
 ghost use Rattle.model.specs.Text.{textValues};
 ghost use Rattle.host_player.specs.HostPlayer.{unpacked, packed, hostAnswer, hostTextAnswer};
-ghost use Rattle.host_player.specs.HostPromises.{HostStarted, HostUpdated, HostSpeedSet, HostParameterSet, HostFramed};
+ghost use Rattle.host_player.specs.HostPromises.{HostStarted, HostUpdated, HostSpeedSet, HostParameterSet};
+ghost use Rattle.host_player.specs.HostPromises.{HostFramed};
 ghost use Rattle.host_player.specs.HostParts.{hostOf, UnpackedParts, PackedParts};
 
 // Start, target and duration count where `running` is not 0.
@@ -267,7 +269,12 @@ pub fn host_frame(
     ext: f64,
     output: &mut [f32],
 ) -> HostFrame
-    ensures { λ r. ⌜ HostFramed kind (now (plan .entry)) (now (numbers .entry)) (hostOf parts (now (parameters .entry)) (now (instances .entry))) ext (now (output .entry)) (now (output .exit)) (hostOf (r .parts) (now (parameters .entry)) (now (instances .exit))) (r .answer) ⌝ }
+    ensures { λ r. ⌜
+        HostFramed kind (now (plan .entry)) (now (numbers .entry))
+        (hostOf parts (now (parameters .entry)) (now (instances .entry)))
+        ext (now (output .entry)) (now (output .exit))
+        (hostOf (r .parts) (now (parameters .entry)) (now (instances .exit))) (r .answer)
+        ⌝ }
 {
     let before = unpack_parts(parts);
     let frame = frame(
