@@ -14,6 +14,8 @@ use layout::JOINT_COUNT_AT;
 use layout::MAX_PLAN;
 use layout::word;
 use model::FrameKind;
+use model::limits::MAX_INSTANCES;
+use model::limits::MAX_PARAMETERS;
 use model::limits::NUMBER_BYTES;
 use skeleton::output_at;
 ghost use mathlib.Core.Path.{_≡_};
@@ -23,6 +25,7 @@ ghost use Rattle.model.specs.Plan.{maxPlan, jointCount, outputAt};
 ghost use Rattle.model.specs.Program.{numberBytes};
 ghost use Rattle.host_player.specs.HostPromises.{HostStarted, HostUpdated, HostSpeedSet, HostParameterSet};
 ghost use Rattle.host_player.specs.HostPromises.{HostFramed, HostTextRead};
+ghost use Rattle.capi.specs.PlayerSize.{playerSize};
 
 // ---- start, update, speed, set
 
@@ -160,12 +163,15 @@ pub extern "C" fn gentianlathe_read_text(
 
 // ---- sizes
 
-// In bytes, for a host to hold its own struct to.
+// Of the player, in bytes: six fields of 8, then floats of 4, up to a multiple of 8.
+const PLAYER_SIZE: usize = (6 * 8 + 4 * (1 + MAX_PARAMETERS + MAX_INSTANCES) + 7) / 8 * 8;
+
+// For a host to hold its own struct to. The contract takes it from the struct's type.
 #[no_mangle]
 pub extern "C" fn gentianlathe_player_size() -> usize
-    ensures { λ r. ⌜ r ≡ 952 ⌝ }
+    ensures { λ r. ⌜ r ≡ playerSize ⌝ }
 {
-    952
+    PLAYER_SIZE
 }
 
 // How many floats a frame of this plan writes, if the plan passes.
