@@ -16,7 +16,7 @@ use prog.Wp.{Heap, Calls, Loops, WpFn, Tables}
 use ghost.Atoms.{Atoms, sem}
 use contract.Lifetimes.{Lfts}
 use contract.Monad.{Fun, fact}
-use contract.Running.{givenOf, tables, tablesOf}
+use contract.Running.{givenOf}
 use types.Kit as kit
 use types.Kit.{Given, ‵, raw, _⊛_, given, ⋆, some, later, _$_, _∵_, !, qed, by, move, use1, use2, split, learn, pick, fsplit, fjoin, suffices}
 use types.Kit.{frame, await, done}
@@ -41,7 +41,6 @@ use denote.Triple.Statement.{Contract, Triple}
 use denote.Triple.Call.{calls-at}
 use denote.Triple.Entry.{Vals, onEntry}
 use denote.Triple.Spec.{Meets, tripleOf}
-use denote.Triple.Table.{entered, cited}
 use denote.Triple.Walked.{says, needs, Stays, stay-none, walkOf, goes-none, Walks, ends-at, walked, walk-meets}
 use denote.Exit.{yes}
 use denote.Triple.Clauses.{ensured, lasts}
@@ -52,6 +51,7 @@ use Rattle.model.proofs.LineKind.Laws as K′
 use Rattle.text.specs.LineReading.{FieldStep}
 use Rattle.text.specs.declared.lines.Fields.{Fields}
 use Rattle.text.specs.declared.lines.LineReading.{LineReading}
+use Rattle.text.proofs.WalkLaws.{with-callee}
 use Rattle.text.proofs.lines.Fields as T
 use Rattle.text.proofs.lines.Fields.Laws as T′
 use Rattle.text.proofs.lines.LineReading as R
@@ -212,9 +212,8 @@ module _ {M : Type 1} (𝓤 : URA M) (H : Heap 𝓤) (A : Atoms 𝓤) (W : Given
       (walks (𝓣 .C) (𝓣 .Λ) (fmOf 𝓤 H (W .laws) 𝓣) known)
 
 pub next-spec : {M : Type 1} → stated.statement M
-unfolding code.routine tablesOf
+unfolding code.routine
 next-spec 𝓤 H 𝓜 𝓖 𝓡 =
-    entered 𝓤 H (tripleOf 𝓤 H (𝓖 .A) f.signature (f.spec 𝓤 H (𝓖 .A) (𝓜 .mem) (𝓡 .run)))
-    (tables 𝓤 H 𝓜 𝓡 code.env .C) (tables 𝓤 H 𝓜 𝓡 code.env .Λ) #next code.function (code.unfolded 𝓤 H 𝓜 𝓡)
-    (meets 𝓤 H (𝓖 .A) (givenOf 𝓤 H 𝓜 𝓖) (𝓜 .mem) (𝓡 .run) (tablesOf 𝓤 H 𝓜 (tables 𝓤 H 𝓜 𝓡 code.env))
-    (cited 𝓤 H (FieldAt 𝓤 H (𝓖 .A) (𝓜 .mem) (𝓡 .run)) 𝓜 𝓡 code.env #field-at callee-def.routine code.calls-text·lines·field-at (callee-thm.met 𝓤 H 𝓜 𝓖 𝓡)))
+    with-callee 𝓤 H 𝓜 𝓡 code.env (tripleOf 𝓤 H (𝓖 .A) f.signature (f.spec 𝓤 H (𝓖 .A) (𝓜 .mem) (𝓡 .run))) (FieldAt 𝓤 H (𝓖 .A) (𝓜 .mem) (𝓡 .run))
+    #next #field-at code.function callee-def.routine (code.unfolded 𝓤 H 𝓜 𝓡) code.calls-text·lines·field-at (callee-thm.met 𝓤 H 𝓜 𝓖 𝓡)
+    (meets 𝓤 H (𝓖 .A) (givenOf 𝓤 H 𝓜 𝓖) (𝓜 .mem) (𝓡 .run))

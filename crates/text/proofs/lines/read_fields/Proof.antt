@@ -21,7 +21,7 @@ use prog.Routine.{Routine}
 use prog.Wp.{Heap, Env, Calls, Loops, WpFn, Tables, exits as leaves, afterTurn}
 use ghost.Atoms.{Atoms, sem}
 use contract.Monad.{Fun, fact}
-use contract.Running.{givenOf, tables, tablesOf}
+use contract.Running.{givenOf}
 use types.Kit.{Given, Item, ‵, raw, _⊛_, ⋆, some, later, Post, post, prop, runs, atRet, Seq, _$_, _∵_, !, qed, by, move, keep, use1, use2, split, pick, rewrite, fsplit, fjoin, suffices}
 use types.Kit.{frame, await, done}
 use types.Part.{whole, sub, look-in, store-in, agg}
@@ -43,7 +43,6 @@ use denote.Triple.Statement.{Contract, Triple}
 use denote.Triple.Call.{calls-at}
 use denote.Triple.Entry.{Vals, onEntry}
 use denote.Triple.Spec.{Meets, tripleOf}
-use denote.Triple.Table.{entered, cited}
 use denote.Triple.Walked.{says, needs, Stays, stay-none, stay-none-slice, walkOf, goes-none, goes-none-slice, Walks, ends-at, walked, walk-meets}
 use denote.Exit.{yes}
 use denote.Triple.Clauses.{ensured, lasts}
@@ -56,6 +55,7 @@ use Rattle.text.specs.declared.lines.LineReading.{LineReading}
 use Rattle.text.proofs.lines.LineReading as R
 use Rattle.text.proofs.lines.LineReading.Laws as R′
 use Rattle.text.specs.declared.lines.Fields.{Fields}
+use Rattle.text.proofs.WalkLaws.{with-callee}
 use Rattle.text.proofs.lines.Fields as T
 use Rattle.text.proofs.lines.Fields.Laws as T′
 use Rattle.text.proofs.lines.next as callee
@@ -265,9 +265,8 @@ module _ {M : Type 1} (𝓤 : URA M) (H : Heap 𝓤) (A : Atoms 𝓤) (W : Given
       (f.clauses 𝓤 H A mem run) (WpFn 𝓤 H (𝓣 .C) (𝓣 .Λ) code.function) (WpFn-mono 𝓤 H (W .laws) 𝓣 code.function) (walks 𝓣 known)
 
 pub read-fields-spec : {M : Type 1} → stated.statement M
-unfolding code.routine tablesOf
+unfolding code.routine
 read-fields-spec 𝓤 H 𝓜 𝓖 𝓡 =
-    entered 𝓤 H (tripleOf 𝓤 H (𝓖 .A) f.signature (f.spec 𝓤 H (𝓖 .A) (𝓜 .mem) (𝓡 .run)))
-    (tables 𝓤 H 𝓜 𝓡 code.env .C) (tables 𝓤 H 𝓜 𝓡 code.env .Λ) #read-fields code.function (code.unfolded 𝓤 H 𝓜 𝓡)
-    (meets 𝓤 H (𝓖 .A) (givenOf 𝓤 H 𝓜 𝓖) (𝓜 .mem) (𝓡 .run) (tablesOf 𝓤 H 𝓜 (tables 𝓤 H 𝓜 𝓡 code.env))
-    (cited 𝓤 H (Next 𝓤 H (𝓖 .A) (𝓜 .mem) (𝓡 .run)) 𝓜 𝓡 code.env #next callee-def.routine code.calls-text·lines·next (callee-thm.met 𝓤 H 𝓜 𝓖 𝓡)))
+    with-callee 𝓤 H 𝓜 𝓡 code.env (tripleOf 𝓤 H (𝓖 .A) f.signature (f.spec 𝓤 H (𝓖 .A) (𝓜 .mem) (𝓡 .run))) (Next 𝓤 H (𝓖 .A) (𝓜 .mem) (𝓡 .run))
+    #read-fields #next code.function callee-def.routine (code.unfolded 𝓤 H 𝓜 𝓡) code.calls-text·lines·next (callee-thm.met 𝓤 H 𝓜 𝓖 𝓡)
+    (meets 𝓤 H (𝓖 .A) (givenOf 𝓤 H 𝓜 𝓖) (𝓜 .mem) (𝓡 .run))
