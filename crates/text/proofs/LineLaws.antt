@@ -22,7 +22,7 @@ use Rattle.text.specs.declared.put.Step.{Step}
 use Rattle.text.specs.declared.put.Step.the-variants.{Next, Malformed}
 use Rattle.text.specs.LineFound.{maxFields, noValues, lineEnd, lineValues, LineFound}
 use Rattle.text.proofs.FieldLaws.{fields-few, line-rest}
-use Rattle.text.specs.Steps.{InText, behindLine, withWord, withNumber, Room, LineValues, LineAt, Put, Stays, valued, ReadAs}
+use Rattle.text.specs.Steps.{InText, behindLine, withWord, withNumber, Room, LineValues, LineAt, Put, Stays, ValuesPut, valued, ReadAs}
 use Rattle.text.proofs.lines.LineEnd.{the-type as end-type}
 use Rattle.text.proofs.Laws.{at-front, put-more, put-nothing, put-word, put-behind}
 
@@ -121,7 +121,7 @@ module _ {form : FieldForm} {limit : ℕ} (value : ℕ) (e : form ≡ Decimal li
   decimal-bounded b = let w : Bounded (Decimal limit) value = rw e at b in omega (arith, w .1)
 
   pub word-put : {r q : Progress} {p₀ p₁ : List ℕ} {n : List Float} → q ≡ withWord r → p₁ ≡ sets p₀ (r .words) (value ∷ [])
-      → Put (wordsIn (form ∷ []) (value ∷ [])) (bitsIn (form ∷ []) (value ∷ [])) r q p₀ p₁ n n × Stays r q
+      → ValuesPut (form ∷ []) (value ∷ []) r q p₀ p₁ n n
   unfolding wordsIn bitsIn
   word-put {r} {q} {p₀} {p₁} {n} f p = rw (e, f) (put-word value r p₀ p₁ n p, (refl, refl))
 
@@ -130,7 +130,7 @@ module _ {form : FieldForm} (value : ℕ) (e : form ≡ Bits) where
   bits-bounded b = rw e at b
 
   pub number-put : {r q : Progress} {p : List ℕ} {n₀ n₁ : List Float} → q ≡ withNumber r → n₁ ≡ sets n₀ (r .numbers) (floatsOf (value ∷ []))
-      → Put (wordsIn (form ∷ []) (value ∷ [])) (bitsIn (form ∷ []) (value ∷ [])) r q p p n₀ n₁ × Stays r q
+      → ValuesPut (form ∷ []) (value ∷ []) r q p p n₀ n₁
   unfolding wordsIn bitsIn
   number-put f p = rw (e, f) (record { words = omega arith; numbers = refl; plan = refl; floats = p }, (refl, refl))
 
@@ -155,9 +155,9 @@ module _ {kind : LineKind} {values : List ℕ} {r : Progress} {p₀ : List ℕ} 
         record { words = omega (arith, room .words, f .put .words); numbers = omega (arith, room .numbers, f .put .numbers) }
 
     pub next-put : k < fieldCount kind → {form : FieldForm} → form ≡ formOf kind k → (z : Progress) (p₂ : List ℕ) (n₂ : List Float)
-        → Put (wordsIn (form ∷ []) (getD values k 0 ∷ [])) (bitsIn (form ∷ []) (getD values k 0 ∷ [])) q z p₁ p₂ n₁ n₂ → Stays q z
+        → ValuesPut (form ∷ []) (getD values k 0 ∷ []) q z p₁ p₂ n₁ n₂
         → FirstPut kind values r p₀ n₀ z p₂ n₂ (k + 1)
-    next-put h {form} e z p₂ n₂ put still =
+    next-put h {form} e z p₂ n₂ (put, still) =
         let l = length-take-le k (forms kind) (omega arith) in
         let more : take (suc k) (forms kind) ≡ take k (forms kind) ++ (form ∷ []) = rw e (take-suc (forms kind) k Bits h) in
         record {
@@ -166,10 +166,10 @@ module _ {kind : LineKind} {values : List ℕ} {r : Progress} {p₀ : List ℕ} 
           stays = (still .0 ∙ f .stays .0, still .1 ∙ f .stays .1);
         }
 
-    pub all-put : fieldCount kind ≤ k → Put (wordsIn (forms kind) values) (bitsIn (forms kind) values) r q p₀ p₁ n₀ n₁
+    pub all-put : fieldCount kind ≤ k → ValuesPut (forms kind) values r q p₀ p₁ n₀ n₁
     all-put h =
         let e : k ≡ fieldCount kind = omega arith in
-        rw (e, take-length (forms kind)) at (f .put)
+        (rw (e, take-length (forms kind)) at (f .put), f .stays)
 
 -- ---- a line's values
 
@@ -196,23 +196,22 @@ module _ {kind : LineKind} {text values : List ℕ} {r : Progress} {at : ℕ} (l
   unfolding readLine fromLine
   line-read = rw (l .reading, words-take, bits-take)
 
-  module _ {q : Progress} {p₀ p₁ : List ℕ} {n₀ n₁ : List Float} (still : Stays (behindLine r at) q)
-      (put : Put (wordsIn (forms kind) values) (bitsIn (forms kind) values) (behindLine r at) q p₀ p₁ n₀ n₁) where
+  module _ {q : Progress} {p₀ p₁ : List ℕ} {n₀ n₁ : List Float} (put : ValuesPut (forms kind) values (behindLine r at) q p₀ p₁ n₀ n₁) where
     pub line-steps : ReadAs text r p₀ p₁ n₀ n₁ (Next q) (readLine kind (drop (r .at) text))
     unfolding ReadAs
     line-steps =
         let bytes = line-bytes in
         rw line-read record {
-          left = rw (still .0);
-          inside = omega (arith, still .0, l .inside);
-          spent = omega (arith, still .0);
-          line = still .1;
-          put = put-behind r q at put;
+          left = rw (put .1 .0);
+          inside = omega (arith, put .1 .0, l .inside);
+          spent = omega (arith, put .1 .0);
+          line = put .1 .1;
+          put = put-behind r q at (put .0);
         }
 
     pub line-valued : valued kind text values r (Next q)
     unfolding valued
-    line-valued = rw (still .0) l
+    line-valued = rw (put .1 .0) l
 
 -- behind a step that went on there is a line
 pub valued-next : (kind : LineKind) (text values : List ℕ) (r q : Progress) (step : Step) → valued kind text values r step → step ≡ Next q → LineAt kind text values r (q .at)

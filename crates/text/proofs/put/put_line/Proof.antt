@@ -32,7 +32,7 @@ loop-again : tie.Need-loop-again Inv-loop μ-loop
 loop-again c =
     let p = c .before .before .before .before in
     let f = p .before .before .before .before in
-    next-put (f .before .before .loop .inv) (omega arith) (f .field-form .ensures) _ _ _ (p .put-value .ensures .0) (p .put-value .ensures .1)
+    next-put (f .before .before .loop .inv) (omega arith) (f .field-form .ensures) _ _ _ (p .put-value .ensures)
 
 pub put-line-spec : {M : Type 1} → statement M
 put-line-spec =
@@ -51,4 +51,4 @@ put-line-spec =
     loop-again
     (λ c. ap length (c .before .loop .inv .put .plan) ∙ simp length-sets)
     (λ c. ap length (c .before .loop .inv .put .floats) ∙ simp length-sets)
-    (λ c. (all-put (c .before .loop .inv) (omega arith), c .before .loop .inv .stays)))
+    (λ c. all-put (c .before .loop .inv) (omega arith)))

@@ -26,7 +26,7 @@ returns-2 c =
     let b = p .before .before .before in
     let l = known (b .before .before) in
     let e = rw (b .behind .ensures) at (p .put-line .ensures) in
-    (line-steps l (e .1) (e .0), line-valued l (e .1) (e .0))
+    (line-steps l e, line-valued l e)
 
 pub read-line-spec : {M : Type 1} → statement M
 read-line-spec =
