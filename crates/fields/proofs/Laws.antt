@@ -15,7 +15,7 @@ use Rattle.model.specs.declared.FieldForm.the-variants.{Decimal, Bits}
 use Rattle.model.specs.Check.{within}
 use Rattle.model.specs.Laws.Digits.{run-length, numeral-small}
 use Rattle.model.specs.Text.{front, digit, digitCount, numeral, baseOf, isField, none, field, fieldIn}
-use Rattle.fields.specs.Counted.{Counted}
+use Rattle.fields.specs.CountedTo.{CountedTo}
 use Rattle.fields.specs.Found.{fieldAt, found}
 use Rattle.fields.specs.Wide.{hexadecimalAt, wideBitsIn, wideBitsAt}
 use Rattle.fields.specs.declared.Field.{Field}
@@ -86,7 +86,7 @@ numeral-goes base s zero h = omega arith
 numeral-goes base s (suc k) h = let e : suc k - 1 ≡ k = omega arith in rw e (omega (arith, le-mul-of-pos-right (numeral base k s) h))
 
 -- a number that is not counted further once it is above `most`
-module _ (base most : ℕ) (s : List ℕ) (k value : ℕ) (c : Counted base most k s value) where
+module _ (base most : ℕ) (s : List ℕ) (k value : ℕ) (c : CountedTo base most k s value) where
   pub counted : value ≤ most → value ≡ numeral base k s
   counted h = ⊎-elim (λ e. e) (λ o. absurd (omega (arith, o .0))) c
 
@@ -97,11 +97,11 @@ module _ (base most : ℕ) (s : List ℕ) (k value : ℕ) (c : Counted base most
   exact : numeral base (k - 1) s ≤ most → value ≡ numeral base k s
   exact h = ⊎-elim (λ e. e) (λ o. absurd (omega (arith, o .1))) c
 
-module _ (base most : ℕ) (text : List ℕ) (at i value : ℕ) (h : at ≤ i) (c : Counted base most (i - at) (drop at text) value) where
-  pub counts : (d : ℕ) → value ≤ most → d ≡ digit (getD text i 0) → Counted base most (i + 1 - at) (drop at text) (value * base + d)
+module _ (base most : ℕ) (text : List ℕ) (at i value : ℕ) (h : at ≤ i) (c : CountedTo base most (i - at) (drop at text) value) where
+  pub counts : (d : ℕ) → value ≤ most → d ≡ digit (getD text i 0) → CountedTo base most (i + 1 - at) (drop at text) (value * base + d)
   counts d l e = inl (numeral-more base text at i value d h (counted base most (drop at text) (i - at) value c l) e)
 
-  pub stays : 1 ≤ base → most < value → Counted base most (i + 1 - at) (drop at text) value
+  pub stays : 1 ≤ base → most < value → CountedTo base most (i + 1 - at) (drop at text) value
   stays b l =
       let e : i + 1 - at - 1 ≡ i - at = omega arith in
       inr (l, rw e (above base most (drop at text) (i - at) value c b l))
@@ -179,7 +179,7 @@ module _ (s : List ℕ) (at end : ℕ) (ends : end ≡ at + digitCount 16 (drop 
   pub bits-none : (end - at ≡ n → ⊥) → Nothing ≡ hexadecimalAt n s at
   bits-none h = rw (ne-eqb (digitCount 16 (drop at s)) n (λ e. h (omega arith)))
 
-  pub bits-read : (most v : ℕ) → Counted 16 most (end - at) (drop at s) v → 16 ^ (n - 1) ≤ most + 1 → end - at ≡ n → Value v end ≡ hexadecimalAt n s at
+  pub bits-read : (most v : ℕ) → CountedTo 16 most (end - at) (drop at s) v → 16 ^ (n - 1) ≤ most + 1 → end - at ≡ n → Value v end ≡ hexadecimalAt n s at
   bits-read most v c p h =
       let f : at + n ≡ end = omega arith in
       let small : numeral 16 (n - 1) (drop at s) < 16 ^ (n - 1) = numeral-small 16 (drop at s) (n - 1) (omega arith) in

@@ -1,3 +1,3 @@
 pub mod Found
 pub mod Wide
-pub mod Counted
+pub mod CountedTo

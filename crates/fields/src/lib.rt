@@ -8,7 +8,7 @@ ghost use Rattle.model.specs.Text.{digit, digitCount, begins};
 ghost use Rattle.model.specs.declared.FieldForm.the-variants as FieldForm;
 ghost use Rattle.fields.specs.Found.{fieldAt};
 ghost use Rattle.fields.specs.Wide.{hexadecimalAt, wideBitsAt};
-ghost use Rattle.fields.specs.Counted.{Counted};
+ghost use Rattle.fields.specs.CountedTo.{CountedTo};
 
 const DECIMAL: usize = 10;
 
@@ -86,7 +86,7 @@ fn digits_at(text: &[u8], at: usize, base: usize, most: usize) -> Digits
     requires { ⌜ (1 ≤ base) × (base ≤ 16) × (most < 2 ^ 60) ⌝ }
     ensures { λ r. ⌜
         (r .end ≡ at + digitCount base (drop at (now (text .entry))))
-        × Counted base most (r .end - at) (drop at (now (text .entry))) (r .value)
+        × CountedTo base most (r .end - at) (drop at (now (text .entry))) (r .value)
         ⌝ }
 {
     let mut value: usize = 0;

@@ -18,8 +18,8 @@ use Rattle.model.specs.Text.{Line, malformed, line, withField, fieldThen, field
 use Rattle.fields.proofs.Bytes.{front-at, positive, positive-at}
 use Rattle.text.specs.declared.lines.LineReading.{LineReading}
 use Rattle.text.specs.declared.lines.LineEnd.the-variants.{At, Malformed}
-use Rattle.text.specs.LineFound.{maxFields, noValues, lineEnd, lineValues, LineFound}
-use Rattle.text.specs.LineReading.{stored, lineOf, FieldStep}
+use Rattle.text.specs.LineFound.{maxFields, noValues, foundEnd, foundValues, LineFound}
+use Rattle.text.specs.LineReading.{inArray, lineFrom, FieldStep}
 
 -- ---- the kinds
 
@@ -61,7 +61,7 @@ module _ {kind is : LineKind} {k : ℕ} (n : ℕ) (e : kind ≡ is) where
 
 -- ---- fields
 
-one-more : (k : ℕ) (array : List ℕ) (v : ℕ) (l : Line) → stored k array (withField v l) ≡ stored (suc k) (set array k v) l
+one-more : (k : ℕ) (array : List ℕ) (v : ℕ) (l : Line) → inArray k array (withField v l) ≡ inArray (suc k) (set array k v) l
 unfolding withField
 one-more k array v malformed = refl
 one-more k array v (line vs rest) = refl
@@ -82,7 +82,7 @@ module _ (kind : LineKind) (text : List ℕ) (at : ℕ) (before : LineReading) (
   Stopped values = FieldStep kind text at before (record { values = values; left = 0; end = length text })
 
   stops : {values : List ℕ} → fieldsIn (drop k (forms kind)) (drop at text) ≡ malformed → Stopped values
-  unfolding lineOf fieldsIn
+  unfolding lineFrom fieldsIn
   stops h = record { fewer = some; same = rw (h, sub-zero, drop-length (forms kind), drop-length text) }
 
   pub no-comma : {values : List ℕ} → (b ≡ comma → ⊥) → Stopped values
@@ -99,7 +99,7 @@ module _ (kind : LineKind) (text : List ℕ) (at : ℕ) (before : LineReading) (
 
     pub field-goes : {value end : ℕ} → fieldIn form (drop (at + 1) text) ≡ field value (drop end text)
         → FieldStep kind text at before (record { values = set (before .values) i value; left = before .left - 1; end = end })
-    unfolding lineOf fieldThen
+    unfolding lineFrom fieldThen
     field-goes h =
         let next : fieldCount kind - (before .left - 1) ≡ suc k = omega arith in
         record { fewer = omega arith; same = rw (goes, h, one-more, next, place) }
@@ -107,7 +107,7 @@ module _ (kind : LineKind) (text : List ℕ) (at : ℕ) (before : LineReading) (
 -- ---- what `line_at` makes of a line
 
 pub malformed-found : (text old : List ℕ) {l : Line} → l ≡ malformed → LineFound text l Malformed old old
-unfolding lineEnd lineValues
+unfolding foundEnd foundValues
 malformed-found text old e = rw e record { answer = refl; values = refl }
 
 abbrev values-of : Line → List ℕ
@@ -122,38 +122,38 @@ abbrev IsLine : Line → Type 0
 IsLine malformed = ⊥
 IsLine (line vs rest) = Unit {0}
 
-stored-malformed : (k : ℕ) (array : List ℕ) (l : Line) → stored k array l ≡ malformed → l ≡ malformed
-stored-malformed k array malformed e = refl
-stored-malformed k array (line vs rest) e = absurd (subst IsLine e tt)
+in-array-malformed : (k : ℕ) (array : List ℕ) (l : Line) → inArray k array l ≡ malformed → l ≡ malformed
+in-array-malformed k array malformed e = refl
+in-array-malformed k array (line vs rest) e = absurd (subst IsLine e tt)
 
-stored-found : (text old values : List ℕ) (end : ℕ) (l : Line) → end ≤ length text → stored 0 noValues l ≡ line values (drop end text)
+in-array-found : (text old values : List ℕ) (end : ℕ) (l : Line) → end ≤ length text → inArray 0 noValues l ≡ line values (drop end text)
     → LineFound text l (At end) old values
-unfolding lineEnd lineValues
-stored-found text old values end malformed h e = absurd (subst IsLine (sym e) tt)
-stored-found text old values end (line vs rest) h e =
+unfolding foundEnd foundValues
+in-array-found text old values end malformed h e = absurd (subst IsLine (sym e) tt)
+in-array-found text old values end (line vs rest) h e =
     let far : length rest ≡ length (drop end text) = ap (λ l. length (rest-of l)) e in
     let place : end ≡ length text - length rest = omega (arith, far, length-drop end text) in
     record { answer = ap At place; values = sym (ap values-of e) }
 
 -- from a line of which nothing is read to one of which only the line feed may be left
 module _ (kind : LineKind) (text old : List ℕ) (begun reading : LineReading) (all : begun .left ≡ fieldCount kind) (none : begun .values ≡ noValues)
-    (done : reading .left ≡ 0) (same : lineOf kind text (reading .end) reading ≡ lineOf kind text (begun .end) begun)
+    (done : reading .left ≡ 0) (same : lineFrom kind text (reading .end) reading ≡ lineFrom kind text (begun .end) begun)
     {b : ℕ} (is : b ≡ getD text (reading .end) 0) where
   abbrev here : Line
   here = fieldsIn (forms kind) (drop (begun .end) text)
 
-  end-opened : stored 0 noValues here
-      ≡ stored (fieldCount kind) (reading .values) (cond (eqb b lineFeed) (line [] (drop (reading .end + 1) text)) malformed)
-  unfolding lineOf fieldsIn
+  end-opened : inArray 0 noValues here
+      ≡ inArray (fieldCount kind) (reading .values) (cond (eqb b lineFeed) (line [] (drop (reading .end + 1) text)) malformed)
+  unfolding lineFrom fieldsIn
   end-opened =
       sym (rw (all, none, done, sub-self, sub-zero) at same)
       ∙ rw (drop-length (forms kind), front-at text (reading .end) is, drop-drop 1 (reading .end) text)
 
   pub no-line-feed : (b ≡ lineFeed → ⊥) → LineFound text here Malformed old old
-  no-line-feed h = malformed-found text old (stored-malformed 0 noValues here (rw (end-opened, ne-eqb _ _ h)))
+  no-line-feed h = malformed-found text old (in-array-malformed 0 noValues here (rw (end-opened, ne-eqb _ _ h)))
 
   pub fields-read : b ≡ lineFeed → reading .end + 1 ≤ length text → LineFound text here (At (reading .end + 1)) old (reading .values)
-  fields-read h inside = stored-found text old (reading .values) (reading .end + 1) here inside (rw (end-opened, eq-eqb _ _ h))
+  fields-read h inside = in-array-found text old (reading .values) (reading .end + 1) here inside (rw (end-opened, eq-eqb _ _ h))
 
 -- ---- a line, by the length r of its name where that stands
 

@@ -20,7 +20,7 @@ use Rattle.text.specs.declared.lines.LineEnd.the-variants as end
 use Rattle.text.specs.declared.put.Progress.{Progress}
 use Rattle.text.specs.declared.put.Step.{Step}
 use Rattle.text.specs.declared.put.Step.the-variants.{Next, Malformed}
-use Rattle.text.specs.LineFound.{maxFields, noValues, lineEnd, lineValues, LineFound}
+use Rattle.text.specs.LineFound.{maxFields, noValues, foundEnd, foundValues, LineFound}
 use Rattle.text.proofs.FieldLaws.{fields-few, line-rest}
 use Rattle.text.specs.Steps.{InText, behindLine, withWord, withNumber, Room, LineValues, LineAt, Put, Stays, ValuesPut, valued, ReadAs}
 use Rattle.text.proofs.lines.LineEnd.{the-type as end-type}
@@ -34,10 +34,10 @@ placeOf end.Malformed = 0
 
 module _ (kind : LineKind) {text old values : List ℕ} (r : Progress) {found : LineEnd} (told : LineFound text (lineIn kind (drop (r .at) text)) found old values) where
   pub line-at : {at : ℕ} → InText text r → found ≡ end.At at → LineAt kind text values r at
-  unfolding lineEnd lineValues
+  unfolding foundEnd foundValues
   line-at {at} here e = of (lineIn kind (drop (r .at) text)) refl (sym e ∙ told .answer) (told .values)
     where
-      of : (l : Line) → lineIn kind (drop (r .at) text) ≡ l → end.At at ≡ lineEnd text l → values ≡ lineValues l old → LineAt kind text values r at
+      of : (l : Line) → lineIn kind (drop (r .at) text) ≡ l → end.At at ≡ foundEnd text l → values ≡ foundValues l old → LineAt kind text values r at
       of malformed is a v = absurd (omega (arith, ap (tagOf end-type) a))
       of (line vs rest) is a v =
           let place : at ≡ length text - length rest = ap placeOf a in
@@ -47,10 +47,10 @@ module _ (kind : LineKind) {text old values : List ℕ} (r : Progress) {found : 
           record { here = here; reading = rw (front, place, ← line-rest kind text (r .at) is) is; inside = omega (arith, place) }
 
   pub line-bad : tagOf end-type found ≡ 1 → readLine kind (drop (r .at) text) ≡ bad 1
-  unfolding lineEnd readLine fromLine
+  unfolding foundEnd readLine fromLine
   line-bad t = of (lineIn kind (drop (r .at) text)) (told .answer)
     where
-      of : (l : Line) → found ≡ lineEnd text l → fromLine kind l ≡ bad 1
+      of : (l : Line) → found ≡ foundEnd text l → fromLine kind l ≡ bad 1
       of malformed a = refl
       of (line vs rest) a = absurd (omega (arith, t, ap (tagOf end-type) a))
 

@@ -16,16 +16,16 @@ abbrev pub noValues : List ℕ
 noValues = replicate maxFields 0
 
 -- the place behind the LF: as far from the text's end as what is left of it is long
-unfoldable pub lineEnd : List ℕ → Line → LineEnd
-lineEnd text malformed = Malformed
-lineEnd text (line vs rest) = At (length text - length rest)
+unfoldable pub foundEnd : List ℕ → Line → LineEnd
+foundEnd text malformed = Malformed
+foundEnd text (line vs rest) = At (length text - length rest)
 
 -- the fields' values and zeros behind them; of a malformed line none, and the array is as it was
-unfoldable pub lineValues : Line → List ℕ → List ℕ
-lineValues malformed old = old
-lineValues (line vs rest) old = sets noValues 0 vs
+unfoldable pub foundValues : Line → List ℕ → List ℕ
+foundValues malformed old = old
+foundValues (line vs rest) old = sets noValues 0 vs
 
 -- both, from an array to another
 pub record LineFound (text : List ℕ) (read : Line) (end : LineEnd) (old new : List ℕ) : Type 0 where
-  pub answer : end ≡ lineEnd text read
-  pub values : new ≡ lineValues read old
+  pub answer : end ≡ foundEnd text read
+  pub values : new ≡ foundValues read old

@@ -20,7 +20,7 @@ ghost use lib.ListN.{length, set, drop};
 ghost use Rattle.model.specs.Text.{name, begins, forms, fieldCount, formOf, fieldsIn, lineIn};
 ghost use Rattle.model.specs.declared.FieldForm.the-variants as FieldForm;
 ghost use Rattle.text.specs.LineFound.{maxFields, LineFound};
-ghost use Rattle.text.specs.LineReading.{lineOf, FieldStep};
+ghost use Rattle.text.specs.LineReading.{lineFrom, FieldStep};
 
 // No line has more fields.
 pub const MAX_FIELDS: usize = 8;
@@ -183,7 +183,7 @@ fn read_fields(text: &[u8], kind: LineKind, begun: LineReading) -> LineReading
     requires { ⌜ begun .left ≤ fieldCount kind ⌝ }
     ensures { λ r. ⌜
         (r .left ≡ 0)
-        × (lineOf kind (now (text .entry)) (r .end) r ≡ lineOf kind (now (text .entry)) (begun .end) begun)
+        × (lineFrom kind (now (text .entry)) (r .end) r ≡ lineFrom kind (now (text .entry)) (begun .end) begun)
         ⌝ }
 {
     let mut cursor = Fields {

@@ -7,14 +7,14 @@ use mathlib.Core.Logic.{⊎-elim, inl}
 use mathlib.Core.Path.{_≡_, refl}
 use lib.ListN.{length, drop}
 use Rattle.model.specs.Text.{digitCount}
-use Rattle.fields.specs.Counted.{Counted}
+use Rattle.fields.specs.CountedTo.{CountedTo}
 use Rattle.fields.proofs.Laws.{run-goes-on, run-stops, run-none, numeral-none, room, counts, stays}
 use Rattle.fields.proofs.digits_at.Statement.{statement}
 use Rattle.fields.proofs.digits_at.Tie as tie
 
 abbrev Inv-loop : tie.InvT-loop
 Inv-loop text at base most value₀ i₀ value i =
-    (at ≤ i) × (i + digitCount base (drop i text) ≡ at + digitCount base (drop at text)) × Counted base most (i - at) (drop at text) value
+    (at ≤ i) × (i + digitCount base (drop i text) ≡ at + digitCount base (drop at text)) × CountedTo base most (i - at) (drop at text) value
 
 abbrev μ-loop : tie.MeasureT-loop
 μ-loop text at base most value₀ i₀ value i = length text - i

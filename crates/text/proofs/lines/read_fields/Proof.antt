@@ -50,7 +50,7 @@ use Rattle.model.specs.Text.{fieldCount}
 use Rattle.model.specs.declared.LineKind.{LineKind}
 use Rattle.model.proofs.LineKind as K
 use Rattle.model.proofs.LineKind.Laws as K′
-use Rattle.text.specs.LineReading.{lineOf, FieldStep}
+use Rattle.text.specs.LineReading.{lineFrom, FieldStep}
 use Rattle.text.specs.declared.lines.LineReading.{LineReading}
 use Rattle.text.proofs.lines.LineReading as R
 use Rattle.text.proofs.lines.LineReading.Laws as R′
@@ -121,7 +121,7 @@ module _ {M : Type 1} (𝓤 : URA M) (H : Heap 𝓤) (A : Atoms 𝓤) (W : Given
 
     -- what a turn begins with, and that turns end
     abbrev Kept : LineReading → Type 0
-    Kept r = Is R.the-row r (readVal r ∷ []) × (r .left ≤ fieldCount kind) × (lineOf kind (now s) (r .end) r ≡ lineOf kind (now s) (begun .end) begun)
+    Kept r = Is R.the-row r (readVal r ∷ []) × (r .left ≤ fieldCount kind) × (lineFrom kind (now s) (r .end) r ≡ lineFrom kind (now s) (begun .end) begun)
 
     abbrev State : Type 0
     State = (r : LineReading) × Kept r

@@ -6,5 +6,5 @@ use mathlib.Core.List.{List}
 use Rattle.model.specs.Text.{numeral}
 
 -- it is what k digits write; or both it and what all but the last of them write are above `most`
-abbrev pub Counted : ℕ → ℕ → ℕ → List ℕ → ℕ → Type 0
-Counted base most k s value = (value ≡ numeral base k s) ⊎ ((most < value) × (most < numeral base (k - 1) s))
+abbrev pub CountedTo : ℕ → ℕ → ℕ → List ℕ → ℕ → Type 0
+CountedTo base most k s value = (value ≡ numeral base k s) ⊎ ((most < value) × (most < numeral base (k - 1) s))
