@@ -1,5 +1,5 @@
 // The printed example, and every refusal from 1 to 10.
-use crate::print;
+use crate::show;
 use controller::frame;
 use controller::set;
 use controller::start;
@@ -11,6 +11,9 @@ use model::limits::MAX_JOINTS;
 use model::limits::MAX_PARAMETERS;
 use model::limits::POSE_FLOATS;
 use model::limits::ROOT;
+ghost use Prim.Native.Nat.{_≤_};
+ghost use lib.ListN.{length};
+ghost use Rattle.model.specs.Plan.{outputAt};
 
 // The parent of a root, as a word.
 pub const NO_PARENT: u16 = ROOT as u16;
@@ -24,60 +27,71 @@ const ALL_WORDS: usize = CLIPS_AT + 7;
 
 const ALL_NUMBERS: usize = 1 + MAX_JOINTS * POSE_FLOATS;
 
-// One joint, one clip of one sample, one state. The output is two floats longer than it need be: these keep their contents.
+// One joint, one clip of one sample, one state.
 pub fn printed_example() {
     let plan: [u16; 13] = [1, 1, 0, 1, 0, NO_PARENT, 1, 1, 0, 0, 0, 0, 0];
     let numbers: [f32; 9] = [1.0, 1.0, 2.0, 3.0, 1.0, 1.0, 0.0, 0.0, 0.0];
     let mut output = [9.0f32; MATRIX_FLOATS + 2];
+    show::text(b"# printed-example: the two floats behind the matrix are kept\n");
     let begun = start(&plan, &numbers);
     let begun_answer = begun.answer;
-    print::answer(b"start", begun_answer);
+    show::answer(b"start\n", begun_answer);
     let player = begun.player;
     let shown = frame(&plan, &numbers, player, 0.0, &mut output);
     let shown_answer = shown.answer;
-    print::answer(b"frame", shown_answer);
-    print::floats(b"output", 0, &output);
+    show::answer(b"frame\n", shown_answer);
+    show::floats(&output);
 }
 
-fn try_start(plan: &[u16], numbers: &[f32]) {
-    let begun = start(plan, numbers);
-    let answer = begun.answer;
-    print::answer(b"start", answer);
-    let player = begun.player;
-    print::player(player);
+fn try_start(title: &[u8], plan: &[u16], numbers: &[f32]) {
+    show::text(title);
+    show::outcome(b"start\n", start(plan, numbers));
 }
 
 pub fn of_start() {
     let numbers: [f32; 9] = [1.0, 1.0, 2.0, 3.0, 1.0, 1.0, 0.0, 0.0, 0.0];
     let plan: [u16; 14] = [1, 1, 0, 1, 0, NO_PARENT, 1, 1, 0, 0, 0, 0, 0, 0];
-    // 1: it ends after three words.
-    try_start(&plan[..3], &numbers);
-    // 2: no clips.
+    try_start(
+        b"# start-1: the plan ends after three words\n",
+        &plan[..3],
+        &numbers,
+    );
     let no_clips: [u16; 13] = [1, 0, 0, 1, 0, NO_PARENT, 1, 1, 0, 0, 0, 0, 0];
-    try_start(&no_clips, &numbers);
-    // 3: a joint that is its own parent.
+    try_start(b"# start-2: no clips\n", &no_clips, &numbers);
     let own_parent: [u16; 13] = [1, 1, 0, 1, 0, 0, 1, 1, 0, 0, 0, 0, 0];
-    try_start(&own_parent, &numbers);
-    // 4: a clip that there is not; then two clip nodes and no node above them, found at K.
+    try_start(
+        b"# start-3: a joint that is its own parent\n",
+        &own_parent,
+        &numbers,
+    );
     let no_such_clip: [u16; 13] = [1, 1, 0, 1, 0, NO_PARENT, 1, 1, 0, 1, 0, 0, 0];
-    try_start(&no_such_clip, &numbers);
+    try_start(
+        b"# start-4-clip: a clip that there is not\n",
+        &no_such_clip,
+        &numbers,
+    );
     let unused: [u16; 17] = [1, 1, 0, 1, 0, NO_PARENT, 1, 2, 0, 0, 0, 0, 0, 0, 0, 0, 0];
-    try_start(&unused, &numbers);
-    // 5: a condition on a parameter, where none can be read.
+    try_start(
+        b"# start-4-unused: two clip nodes and no node above them, found at K\n",
+        &unused,
+        &numbers,
+    );
     let no_parameter: [u16; 16] = [1, 1, 0, 1, 0, NO_PARENT, 1, 1, 0, 0, 0, 0, 1, 0, 0, 0];
-    try_start(&no_parameter, &numbers);
-    // 6: a word too many. 7: a number too few.
-    try_start(&plan, &numbers);
-    try_start(&plan[..13], &numbers[..8]);
+    try_start(
+        b"# start-5: a condition on a parameter, where none can be read\n",
+        &no_parameter,
+        &numbers,
+    );
+    try_start(b"# start-6: a word too many\n", &plan, &numbers);
+    try_start(b"# start-7: a number too few\n", &plan[..13], &numbers[..8]);
 }
 
-fn try_frame(plan: &[u16], numbers: &[f32], player: Player, output: &mut [f32]) {
-    let shown = frame(plan, numbers, player, 0.0, output);
-    let answer = shown.answer;
-    print::answer(b"frame", answer);
-    let after = shown.player;
-    print::player(after);
-    print::floats(b"output", 0, output);
+fn try_frame(title: &[u8], plan: &[u16], numbers: &[f32], player: Player, output: &mut [f32])
+    requires { ⌜ length (now output) ≤ outputAt 1 ⌝ }
+{
+    show::text(title);
+    show::outcome(b"frame\n", frame(plan, numbers, player, 0.0, output));
+    show::floats(output);
 }
 
 pub fn of_set_and_frame() {
@@ -86,15 +100,26 @@ pub fn of_set_and_frame() {
     let mut output = [9.0f32; MATRIX_FLOATS - 1];
     let begun = start(&plan, &numbers);
     let player = begun.player;
-    // 8
+    show::text(b"# set-8: parameter 32\n");
     let refused = set(player, MAX_PARAMETERS, 1.0);
     let answer = refused.answer;
-    print::answer(b"set", answer);
-    // 9: a state, then a target, that the plan does not have. Before that a plan that does not pass.
+    show::answer(b"set\n", answer);
     let mut astray = refused.player;
     astray.state = 18446744073709551615;
-    try_frame(&plan[..3], &numbers, astray, &mut output);
-    try_frame(&plan, &numbers, astray, &mut output);
+    try_frame(
+        b"# frame-1: a plan that does not pass, before a state that is not there\n",
+        &plan[..3],
+        &numbers,
+        astray,
+        &mut output,
+    );
+    try_frame(
+        b"# frame-9-state: a state that the plan does not have\n",
+        &plan,
+        &numbers,
+        astray,
+        &mut output,
+    );
     let parameters = player.parameters;
     let instances = player.instances;
     let bound = Player {
@@ -109,9 +134,20 @@ pub fn of_set_and_frame() {
         parameters: parameters,
         instances: instances,
     };
-    try_frame(&plan, &numbers, bound, &mut output);
-    // 10
-    try_frame(&plan, &numbers, player, &mut output);
+    try_frame(
+        b"# frame-9-target: a target that the plan does not have\n",
+        &plan,
+        &numbers,
+        bound,
+        &mut output,
+    );
+    try_frame(
+        b"# frame-10: an output one float too short\n",
+        &plan,
+        &numbers,
+        player,
+        &mut output,
+    );
 }
 
 pub fn joint_limit() {
@@ -129,7 +165,7 @@ pub fn joint_limit() {
     plan[CLIPS_AT + 5] = 0;
     plan[CLIPS_AT + 6] = 0;
     let numbers = [1.0f32; ALL_NUMBERS];
-    try_start(&plan, &numbers);
+    try_start(b"# joints-64: they pass\n", &plan, &numbers);
     plan[0] = ALL_JOINTS + 1;
-    try_start(&plan, &numbers);
+    try_start(b"# joints-65: they do not\n", &plan, &numbers);
 }

@@ -1,6 +1,6 @@
 // Two signs of an arm of two joints, with a transition each way; a page frame; and NaN.
-use crate::print;
 use crate::refusals::NO_PARENT;
+use crate::show;
 use controller::frame;
 use controller::page_frame;
 use controller::set;
@@ -11,15 +11,12 @@ use model::Player;
 use model::limits::MATRIX_FLOATS;
 
 // A frame of two joints, and the player that it returns.
-fn show(plan: &[u16], numbers: &[f32], player: Player, ext: f64) -> Player {
+fn framed(plan: &[u16], numbers: &[f32], player: Player, ext: f64) -> Player {
     let mut output = [0.0f32; 2 * MATRIX_FLOATS];
     let shown = frame(plan, numbers, player, ext, &mut output);
-    let answer = shown.answer;
-    print::answer(b"frame", answer);
+    show::outcome(b"frame\n", shown);
+    show::joints(2, &output);
     let after = shown.player;
-    print::player(after);
-    print::joint(0, &output);
-    print::joint(1, &output);
     after
 }
 
@@ -119,20 +116,23 @@ pub fn there_and_back() {
         0.0,
         0.0,
     ];
+    show::text(
+        b"# there-and-back: a transition begins, runs and ends; the parameter is held, so the way back begins, of duration 0\n",
+    );
     let begun = start(&plan, &numbers);
     let fresh = begun.player;
-    let idle = show(&plan, &numbers, update(fresh, 0.25), 0.0);
+    let idle = framed(&plan, &numbers, update(fresh, 0.25), 0.0);
     let told = set(idle, 0, 0.75);
     let answer = told.answer;
-    print::answer(b"set", answer);
+    show::answer(b"set\n", answer);
     let told_player = told.player;
-    let leaving = show(&plan, &numbers, told_player, 0.0);
-    let half_way = show(&plan, &numbers, update(leaving, 1.0), 0.0);
-    let arrived = show(&plan, &numbers, update(half_way, 1.0), 0.0);
-    let turning = show(&plan, &numbers, arrived, 0.125);
-    let back = show(&plan, &numbers, turning, 0.125);
-    let again = show(&plan, &numbers, speed(back, 2.0), 0.0);
-    show(&plan, &numbers, update(again, 1.0), 0.5);
+    let leaving = framed(&plan, &numbers, told_player, 0.0);
+    let half_way = framed(&plan, &numbers, update(leaving, 1.0), 0.0);
+    let arrived = framed(&plan, &numbers, update(half_way, 1.0), 0.0);
+    let turning = framed(&plan, &numbers, arrived, 0.125);
+    let back = framed(&plan, &numbers, turning, 0.125);
+    let again = framed(&plan, &numbers, speed(back, 2.0), 0.0);
+    framed(&plan, &numbers, update(again, 1.0), 0.5);
 }
 
 // One joint, turned by the rotation ½ ½ ½ ½.
@@ -140,19 +140,21 @@ pub fn page() {
     let plan: [u16; 13] = [1, 1, 0, 1, 0, NO_PARENT, 1, 1, 0, 0, 0, 0, 0];
     let numbers: [f32; 9] = [1.0, 1.0, 2.0, 3.0, 1.0, 0.5, 0.5, 0.5, 0.5];
     let mut output = [0.0f32; MATRIX_FLOATS];
+    show::text(
+        b"# page: a turned joint, as a frame and as a page frame; a refused one writes nothing\n",
+    );
     let begun = start(&plan, &numbers);
     let player = begun.player;
     let shown = frame(&plan, &numbers, player, 0.0, &mut output);
-    print::joint(0, &output);
+    show::joints(1, &output);
     let paged = page_frame(&plan, &numbers, player, 0.0, &mut output);
     let answer = paged.answer;
-    print::answer(b"page", answer);
-    print::joint(0, &output);
-    // A refused one writes nothing.
+    show::answer(b"page\n", answer);
+    show::joints(1, &output);
     let refused = page_frame(&plan[..12], &numbers, player, 0.0, &mut output);
     let refusal = refused.answer;
-    print::answer(b"page", refusal);
-    print::joint(0, &output);
+    show::answer(b"page\n", refusal);
+    show::joints(1, &output);
 }
 
 // A lerp of two clips, with every number, time and parameter NaN. Its transition is never begun, since no comparison holds of NaN but !=.
@@ -188,17 +190,15 @@ pub fn nothing_but_nan() {
     let numbers = [nan; 20];
     let mut output = [0.0f32; MATRIX_FLOATS];
     let wide: f64 = 0.0 / 0.0;
+    show::text(b"# nan: every number, time and parameter; no transition begins\n");
     let begun = start(&plan, &numbers);
     let begun_answer = begun.answer;
-    print::answer(b"start", begun_answer);
+    show::answer(b"start\n", begun_answer);
     let fresh = begun.player;
     let told = set(fresh, 0, nan);
     let told_player = told.player;
     let moved = update(speed(told_player, wide), wide);
     let shown = frame(&plan, &numbers, moved, wide, &mut output);
-    let answer = shown.answer;
-    print::answer(b"frame", answer);
-    let after = shown.player;
-    print::player(after);
-    print::joint(0, &output);
+    show::outcome(b"frame\n", shown);
+    show::joints(1, &output);
 }
