@@ -46,7 +46,7 @@ fn figure(unseen: f32) -> [f32; NUMBERS] {
 }
 
 // The first state lerps clips 0 and 1 by parameter 0. Nothing leads to the second, which lerps clips 2 and 0 by parameter 1 and tests that too.
-fn played(unseen: f32) {
+fn played(unseen: f32, numbers: &[f32]) {
     let plan: [u16; 41] = [
         2,
         3,
@@ -90,9 +90,8 @@ fn played(unseen: f32) {
         2,
         0,
     ];
-    let numbers = figure(unseen);
     let mut output = [unseen; 2 * MATRIX_FLOATS];
-    let begun = start(&plan, &numbers);
+    let begun = start(&plan, numbers);
     show::outcome(b"start\n", begun);
     let fresh = begun.player;
     let told = set(fresh, 0, 0.5);
@@ -101,33 +100,24 @@ fn played(unseen: f32) {
     let unread = set(told_player, 1, unseen);
     show::outcome(b"set\n", unread);
     let unread_player = unread.player;
-    let shown = frame(
-        &plan,
-        &numbers,
-        update(unread_player, 0.5),
-        0.0,
-        &mut output,
-    );
+    let shown = frame(&plan, numbers, update(unread_player, 0.5), 0.0, &mut output);
     show::outcome(b"frame\n", shown);
     show::joints(1, &output);
     let shown_player = shown.player;
-    let last = frame(
-        &plan,
-        &numbers,
-        update(shown_player, 1.25),
-        0.0,
-        &mut output,
-    );
+    let last = frame(&plan, numbers, update(shown_player, 1.25), 0.0, &mut output);
     show::outcome(b"frame\n", last);
     show::joints(1, &output);
 }
 
 pub fn sevens() {
     show::text(b"# unseen-sevens: joint 0, where all that it cannot see is 7\n");
-    played(7.0);
+    let numbers = figure(7.0);
+    played(7.0, &numbers);
 }
 
 pub fn nan() {
     show::text(b"# unseen-nan: joint 0 as before, where all that it cannot see is NaN\n");
-    played(0.0 / 0.0);
+    let nothing: f32 = 0.0 / 0.0;
+    let numbers = figure(nothing);
+    played(nothing, &numbers);
 }
