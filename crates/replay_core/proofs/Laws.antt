@@ -1,12 +1,11 @@
 -- One call: what a frame leaves to be shown, and what is put for a call. Assumes nothing.
-use Prim.Native.Nat.{ℕ, _+_, _≤_}
+use Prim.Native.Nat.{ℕ, _≤_}
 use native.Mathlib.Omega.{arith}
 use mathlib.Core.Path.{_≡_, refl, sym, ap, _∙_}
 use mathlib.Core.Logic.{_⊎_, inl, inr}
 use mathlib.Core.List.{List, [], _++_, map, append-assoc}
 use lib.Dec.{leb}
-use lib.ListN.{length, getD, take, drop, length-append}
-use lib.Seq.{sets-eq, length-take-le, take-append-seam}
+use lib.ListN.{length, getD, drop}
 use lib.Ieee.{Float}
 use borrow.Author.Tests.{le-leb}
 use Rattle.model.specs.declared.FrameKind.{FrameKind}
@@ -29,28 +28,16 @@ use Rattle.model.specs.Laws.Answers.{then-left}
 use Rattle.model.specs.Laws.Output.{matrix-at, frame-length}
 use Rattle.model.specs.Laws.Passed.{few-joints}
 use Rattle.printing.specs.Written.{Written, jointLines}
-use Rattle.printing.proofs.Laws.{more-written, length-written, joined-same}
+use Rattle.printing.proofs.Laws.{more-written, front-written, joined-same}
 use Rattle.calls.specs.declared.Call as Read
 use Rattle.calls.specs.declared.Call.the-variants as read
-use Rattle.calls.specs.CallText.{line}
+use Rattle.calls.specs.CallText.{malformed, line}
 use Rattle.calls.specs.Read.{lineOf}
-use Rattle.report.specs.Report.{below, matrixLines, answerLine, playerLine, observationText}
+use Rattle.report.specs.Report.{below, matrixLines, answerLine, playerText, observationText}
 use Rattle.report.proofs.Laws.{no-matrix-lines, matrix-lines-below}
 use Rattle.replay_core.specs.declared.CallDone.{CallDone}
 use Rattle.replay_core.specs.Replay.{startText}
-use Rattle.replay_core.specs.Replaying.{Front, NothingShown, Done, Called, callText, Beginning}
-
--- ---- texts put into a slice
-
--- what stands before the place behind a text
-pub front-written : {xs ys text : List ℕ} {at end : ℕ} → Written xs at text ys end → end ≤ length xs → take end ys ≡ take at xs ++ text
-front-written {xs = xs} {text = text} {at = at} {end = end} p room =
-    let e : end ≡ length (take at xs ++ text) = omega (arith, length-append (take at xs) text, length-take-le at xs (omega arith)) in
-    ap (take end) (p .stored ∙ sets-eq text xs at (omega arith)) ∙ rw e (take-append-seam (take at xs ++ text) (drop (at + length text) xs))
-
--- a text from the first byte on
-pub front-put : {xs ys text : List ℕ} {end : ℕ} → Written xs 0 text ys end → end ≤ length xs → Front text ys end
-front-put p room = record { inside = omega (arith, length-written p); front = front-written p room }
+use Rattle.replay_core.specs.Replaying.{NothingShown, callText, allShown, Done, lineAfter, lineText, Called, Beginning}
 
 -- ---- room for a frame
 
@@ -61,7 +48,8 @@ room-same accepted a b need room n fits = rw (le-leb need room (fits refl .0), l
 room-same (refused number place rest) a b need room n fits = refl
 
 -- no frame that the plan's check lets pass needs more than the longest output
-pub frame-room : (plan : List ℕ) (numbers : List Float) (p : Player) (room n : ℕ) → (room ≡ n) ⊎ ((room ≡ maxOutput) × (maxOutput ≤ n))
+pub frame-room : (plan : List ℕ) (numbers : List Float) (p : Player) (room n : ℕ)
+    → (room ≡ n) ⊎ ((room ≡ maxOutput) × (maxOutput ≤ n))
     → frameVerdict plan numbers p room ≡ frameVerdict plan numbers p n
 unfolding frameVerdict
 frame-room plan numbers p room n (inl e) = rw e
@@ -78,8 +66,8 @@ unless-same (refused number place rest) a = refl
 
 module _ (plan : List ℕ) (numbers : List Float) (p : Player) (floats : List Float) where
   -- a call that shows no matrices
-  pub nothing-done : (c : Call) {a : Answer} {q : Player} {d : CallDone} → values a ≡ callVerdict plan numbers p c → q ≡ after plan numbers p c
-      → unlessRefused (callVerdict plan numbers p c) (chosenFloats plan numbers (below (jointCount plan)) p c) [] ≡ [] → NothingShown a q d
+  pub nothing-done : (c : Call) {a : Answer} {q : Player} {d : CallDone} → values a ≡ callVerdict plan numbers p c
+      → q ≡ after plan numbers p c → allShown plan numbers p c ≡ [] → NothingShown a q d
       → Done plan numbers p c floats d
   unfolding joined
   nothing-done c answer player none h =
@@ -91,8 +79,9 @@ module _ (plan : List ℕ) (numbers : List Float) (p : Player) (floats : List Fl
       }
 
 -- a frame whose output was the front of the floats, and is answered as one of length n
-module _ (plan : List ℕ) (numbers : List Float) (p : Player) (kind : FrameKind) (ext : Float) (old new : List Float) (r : Outcome)
-    (framed : Framed kind plan numbers p ext old new r) (n : ℕ) (same : frameVerdict plan numbers p (length old) ≡ frameVerdict plan numbers p n) (d : CallDone)
+module _ (plan : List ℕ) (numbers : List Float) (p : Player) (kind : FrameKind) (ext : Float) (old new : List Float)
+    (r : Outcome) (framed : Framed kind plan numbers p ext old new r) (n : ℕ)
+    (same : frameVerdict plan numbers p (length old) ≡ frameVerdict plan numbers p n) (d : CallDone)
   where
     frame-answer : values (r .answer) ≡ callVerdict plan numbers p (Frame kind ext n)
     unfolding callVerdict
@@ -102,11 +91,12 @@ module _ (plan : List ℕ) (numbers : List Float) (p : Player) (kind : FrameKind
     unfolding callVerdict changed after
     frame-player = rw (← same) (framed .player)
 
-    pub frame-refused : (refusal : Refusal) (floats : List Float) → r .answer ≡ Refused refusal → NothingShown (r .answer) (r .player) d
+    pub frame-refused : (refusal : Refusal) (floats : List Float) → r .answer ≡ Refused refusal
+        → NothingShown (r .answer) (r .player) d
         → Done plan numbers p (Frame kind ext n) floats d
     unfolding values unlessRefused
     frame-refused refusal floats e h =
-        let v : callVerdict plan numbers p (Frame kind ext n) ≡ refused (refusal .number) (refusal .place) 0 = sym frame-answer ∙ ap values e in
+        let v = sym frame-answer ∙ ap values e in
         nothing-done plan numbers p floats (Frame kind ext n) frame-answer frame-player (rw v) h
 
     module _ (rest : List Float) (e : r .answer ≡ Accepted) where
@@ -121,14 +111,17 @@ module _ (plan : List ℕ) (numbers : List Float) (p : Player) (kind : FrameKind
       abbrev matrices : List Matrix4
       matrices = frameMatrices plan numbers p ext kind
 
-      lines : jointLines (jointCount plan) (new ++ rest) ≡ matrixLines (map (λ j. floats (getD matrices j identityMatrix)) (below (jointCount plan)))
+      lines : jointLines (jointCount plan) (new ++ rest)
+          ≡ matrixLines (map (λ j. floats (getD matrices j identityMatrix)) (below (jointCount plan)))
       unfolding unlessRefused written
       lines =
           let o : new ≡ flat matrices ++ drop (outputAt (jointCount plan)) old = rw frame-accepted at (framed .output) in
+          let long = frame-length plan numbers p ext kind in
           rw (matrix-lines-below, o, append-assoc)
-          (joined-same (jointCount plan) _ _ (λ j h. ap (jointLine j) (matrix-at matrices _ j (omega (arith, frame-length plan numbers p ext kind)))))
+          (joined-same (jointCount plan) _ _ (λ j h. ap (jointLine j) (matrix-at matrices _ j (omega arith))))
 
-      pub frame-done : d .answer ≡ r .answer → d .player ≡ r .player → d .joints ≡ word plan jointCountAt → Done plan numbers p (Frame kind ext n) (new ++ rest) d
+      pub frame-done : d .answer ≡ r .answer → d .player ≡ r .player → d .joints ≡ word plan jointCountAt
+          → Done plan numbers p (Frame kind ext n) (new ++ rest) d
       unfolding callVerdict chosenFloats unlessRefused jointCount
       frame-done a q count =
           record {
@@ -140,31 +133,38 @@ module _ (plan : List ℕ) (numbers : List Float) (p : Player) (kind : FrameKind
 
 -- ---- the call of a line
 
-module _ (plan : List ℕ) (numbers : List Float) (p : Player) (floats : List Float) (d : CallDone) (call : Read.Call) where
-  pub called : (k : Read.Call) (c : Call) → call ≡ k → ((s : List ℕ) → lineOf k s ≡ line c s) → Done plan numbers p c floats d → Called plan numbers p call floats d
-  called k c e is h =
-      record {
-        few = h .few;
-        done = λ x s rest t. let same : c ≡ x = cc (is s) in rw same at h;
-      }
+module _ (plan : List ℕ) (numbers : List Float) (p : Player) (floats : List Float) (d : CallDone) where
+  call-text : (c : Call) (rest : List ℕ) → Done plan numbers p c floats d → callText d floats ≡ lineText plan numbers p (line c rest)
+  unfolding callText lineText observationText observation
+  call-text c rest h = rw (h .answer, h .player, h .shown)
 
-  pub malformed-called : call ≡ read.Malformed → NothingShown Accepted p d → Called plan numbers p call floats d
-  unfolding lineOf
-  malformed-called e h = record { few = omega arith; done = λ x s rest t. absurd (let z : _≡_ {A = ℕ} 0 1 = cc in omega arith) }
+  module _ (call : Read.Call) where
+    pub called : (k : Read.Call) (c : Call) → call ≡ k → ((s : List ℕ) → lineOf k s ≡ line c s) → Done plan numbers p c floats d
+        → Called plan numbers p call floats d
+    unfolding lineAfter
+    called k c e is h =
+        record {
+          few = h .few;
+          player = λ rest. rw (e, is rest) (h .player);
+          text = λ rest. rw (e, is rest) (call-text c rest h);
+        }
 
--- ---- what is put for a call
-
-pub call-text : (plan : List ℕ) (numbers : List Float) (p : Player) (c : Call) (floats : List Float) (d : CallDone) → Done plan numbers p c floats d
-    → callText d floats ≡ observationText (observation (callVerdict plan numbers p c) (after plan numbers p c) (chosenFloats plan numbers (below (jointCount plan)) p c))
-unfolding callText observationText observation
-call-text plan numbers p c floats d h = rw (h .answer, h .player, h .shown)
+    pub malformed-called : call ≡ read.Malformed → NothingShown Accepted p d → Called plan numbers p call floats d
+    unfolding lineOf lineAfter lineText callText observationText observation values unlessRefused joined
+    malformed-called e h =
+        record {
+          few = omega arith;
+          player = λ rest. rw e (h .player);
+          text = λ rest. rw (e, h .answer, h .player, h .joints, no-matrix-lines);
+        }
 
 -- ---- the start
 
-pub begun : (plan : List ℕ) (numbers : List Float) (r : Outcome) {xs ys zs : List ℕ} {middle end : ℕ} → Started plan numbers r
-    → Written xs 0 (answerLine (values (r .answer))) ys middle
-    → Written ys middle (playerLine (r .player .clock) (r .player .speed) (r .player .state) (r .player .transition)) zs end → end ≤ length xs
-    → Beginning plan numbers zs (record { player = r .player; length = end })
+pub begun : (plan : List ℕ) (numbers : List Float) (r : Outcome) {xs ys zs : List ℕ} {middle end : ℕ}
+    → Started plan numbers r → Written xs 0 (answerLine (values (r .answer))) ys middle
+    → Written ys middle (playerText (r .player)) zs end → end ≤ length xs
+    → Beginning plan numbers xs zs (record { player = r .player; length = end })
 unfolding startText
 begun plan numbers r started answer player room =
-    record { player = started .player; text = rw (← started .answer, ← started .player) (front-put (more-written answer player) room) }
+    let put = front-written (more-written answer player) room in
+    record { player = started .player; text = rw (← started .answer, ← started .player) put }

@@ -11,7 +11,7 @@ use Rattle.model.specs.Text.{lineFeed, Reading, bad, got, readFigure, floatsOf}
 use Rattle.model.specs.Program.{decimalFields, refusedLine, maxText}
 use Rattle.model.specs.Run.{startVerdict, startPlayer, Call, after, runFrom}
 use Rattle.calls.specs.CallText.{CallList, badLine, calls, callList}
-use Rattle.report.specs.Report.{below, answerLine, playerLine, observationText, endText}
+use Rattle.report.specs.Report.{below, answerLine, playerText, observationText, endText}
 
 -- texts, one behind the other
 unfoldable pub texts : List (List ℕ) → List ℕ
@@ -30,12 +30,12 @@ module _ (plan : List ℕ) (numbers : List Float) where
 
   -- the start's answer and its player, which is blank where the start is refused
   unfoldable pub startText : List ℕ
-  startText =
-      let p = startPlayer plan numbers in
-      answerLine (startVerdict plan numbers) ++ playerLine (p .clock) (p .speed) (p .state) (p .transition)
+  startText = answerLine (startVerdict plan numbers) ++ playerText (startPlayer plan numbers)
 
   unfoldable pub replayed : List Call → List ℕ
-  replayed cs = startText ++ reportFrom (startPlayer plan numbers) cs ++ endText (playerAfter (startPlayer plan numbers) cs)
+  replayed cs =
+      let p = startPlayer plan numbers in
+      startText ++ reportFrom p cs ++ endText (playerAfter p cs)
 
 -- `malformed,LINE`, by its bytes
 unfoldable pub malformedLine : ℕ → List ℕ
@@ -52,4 +52,5 @@ withReading (got ws bs rest n) text = withCalls ws (floatsOf bs) (callList text)
 
 -- the whole program: a figure's text and a list of calls; the figure is judged first
 unfoldable pub replayPrinted : List ℕ → List ℕ → List ℕ
-replayPrinted figure text = cond (ltb maxText (length figure)) (refusedLine 13 maxText) (withReading (readFigure figure) text)
+replayPrinted figure text =
+    cond (ltb maxText (length figure)) (refusedLine 13 maxText) (withReading (readFigure figure) text)

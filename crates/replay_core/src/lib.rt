@@ -1,5 +1,6 @@
-// A list of calls performed on a figure, with what each call shows put into a slice of bytes. A long list shows more than any buffer holds, so `perform`
-// stops where there is no room for another report and says how far it came; its caller prints, and goes on from there.
+// A list of calls performed on a figure, with what each call shows put into a slice of bytes. A long list shows more
+// than any buffer holds, so `perform` stops where there is no room for another report and says how far it came; its
+// caller prints, and goes on from there.
 use calls::Call;
 use calls::call_at;
 use controller::frame;
@@ -26,18 +27,20 @@ use report::put_instances;
 use report::put_parameters;
 use report::put_player;
 ghost use mathlib.Core.Path.{_≡_};
+ghost use mathlib.Core.List.{[]};
 ghost use Prim.Native.Nat.{_+_, _≤_};
 ghost use lib.ListN.{length};
 ghost use Rattle.model.specs.declared.Answer.the-variants as Answer;
 ghost use Rattle.model.specs.Plan.{maxJoints, maxOutput};
 ghost use Rattle.model.specs.Run.{Frame};
 ghost use Rattle.model.specs.Promises.{Framed};
-ghost use Rattle.printing.specs.Written.{Written};
+ghost use Rattle.printing.specs.Written.{WrittenUpTo, Front};
 ghost use Rattle.report.specs.Report.{endText};
 ghost use Rattle.replay_core.specs.Replay.{malformedLine};
-ghost use Rattle.replay_core.specs.Replaying.{maxReport, Front, NothingShown, Done, Called, callText, Beginning, Performing};
+ghost use Rattle.replay_core.specs.Replaying.{maxReport, NothingShown, callText, Done, Called};
+ghost use Rattle.replay_core.specs.Replaying.{Beginning, performed, Performing};
 
-// The longest report of a call, or anything else that is put at once: an answer, the player and the lines of all joints.
+// The longest report of a call, or anything else that is put at once: an answer, the player, the lines of all joints.
 pub const MAX_REPORT: usize = REFUSAL_SIZE + PLAYER_SIZE + MAX_PRINTED;
 
 // A call's outcome, and how many joints' matrices it left in the floats.
@@ -53,7 +56,8 @@ pub struct Begun {
     pub length: usize,
 }
 
-// The player after the calls that were performed, the byte where the next one's line begins, how many lines are left, and how many bytes were put.
+// The player after the calls that were performed, the byte where the next one's line begins, how many lines are left,
+// and how many bytes were put.
 pub struct Progress {
     pub player: Player,
     pub at: usize,
@@ -94,7 +98,9 @@ fn frame_of(
     ext: f64,
     output: &mut [f32],
 ) -> Outcome
-    ensures { λ r. ⌜ Framed kind (now (plan .entry)) (now (numbers .entry)) player ext (now (output .entry)) (now (output .exit)) r ⌝ }
+    ensures { λ r. ⌜
+        Framed kind (now (plan .entry)) (now (numbers .entry)) player ext (now (output .entry)) (now (output .exit)) r
+        ⌝ }
 {
     match kind {
         FrameKind::Ordinary => frame(plan, numbers, player, ext, output),
@@ -113,7 +119,10 @@ fn frame_done(
     floats: &mut [f32],
 ) -> CallDone
     requires { ⌜ length (now floats) ≡ maxOutput ⌝ }
-    ensures { λ r. ⌜ Done (now (plan .entry)) (now (numbers .entry)) player (Frame kind ext «output_length») (now (floats .exit)) r × (length (now (floats .exit)) ≡ maxOutput) ⌝ }
+    ensures { λ r. ⌜
+        Done (now (plan .entry)) (now (numbers .entry)) player (Frame kind ext «output_length») (now (floats .exit)) r
+        × (length (now (floats .exit)) ≡ maxOutput)
+        ⌝ }
 {
     let room = if output_length < MAX_OUTPUT {
         output_length
@@ -133,7 +142,7 @@ fn frame_done(
     }
 }
 
-// A malformed line, which no list that passed has, changes nothing.
+// A malformed line, which no list that passed has, changes nothing and is answered as accepted.
 fn call_done(
     plan: &[u16],
     numbers: &[f32],
@@ -142,7 +151,10 @@ fn call_done(
     floats: &mut [f32],
 ) -> CallDone
     requires { ⌜ length (now floats) ≡ maxOutput ⌝ }
-    ensures { λ r. ⌜ Called (now (plan .entry)) (now (numbers .entry)) player call (now (floats .exit)) r × (length (now (floats .exit)) ≡ maxOutput) ⌝ }
+    ensures { λ r. ⌜
+        Called (now (plan .entry)) (now (numbers .entry)) player call (now (floats .exit)) r
+        × (length (now (floats .exit)) ≡ maxOutput)
+        ⌝ }
 {
     match call {
         Call::Malformed => accepted(player),
@@ -163,8 +175,12 @@ fn call_done(
 
 // The answer, the player and the joints.
 fn put_call(out: &mut [u8], at: usize, call: CallDone, floats: &[f32]) -> usize
-    requires { ⌜ (at + maxReport ≤ length (now out)) × (call .joints ≤ maxJoints) × (length (now floats) ≡ maxOutput) ⌝ }
-    ensures { λ r. ⌜ Written (now (out .entry)) at (callText call (now (floats .entry))) (now (out .exit)) r × (r ≤ at + maxReport) ⌝ }
+    requires { ⌜
+        (at + maxReport ≤ length (now out))
+        × (call .joints ≤ maxJoints)
+        × (length (now floats) ≡ maxOutput)
+        ⌝ }
+    ensures { λ r. ⌜ WrittenUpTo maxReport (now (out .entry)) at (callText call (now (floats .entry))) (now (out .exit)) r ⌝ }
 {
     let answer = call.answer;
     let player = call.player;
@@ -177,7 +193,7 @@ fn put_call(out: &mut [u8], at: usize, call: CallDone, floats: &[f32]) -> usize
 
 // The start's answer and player.
 pub fn begin(plan: &[u16], numbers: &[f32], out: &mut [u8; MAX_REPORT]) -> Begun
-    ensures { λ r. ⌜ Beginning (now (plan .entry)) (now (numbers .entry)) (now (out .exit)) r ⌝ }
+    ensures { λ r. ⌜ Beginning (now (plan .entry)) (now (numbers .entry)) (now (out .entry)) (now (out .exit)) r ⌝ }
 {
     let started = start(plan, numbers);
     let answer = started.answer;
@@ -200,7 +216,10 @@ pub fn perform(
     player: Player,
     out: &mut [u8],
 ) -> Progress
-    ensures { λ r. ⌜ Performing (now (plan .entry)) (now (numbers .entry)) (now (text .entry)) at lines player (now (out .exit)) r ⌝ }
+    ensures { λ r. ⌜
+        Performing (performed (now (plan .entry)) (now (numbers .entry)) (now (text .entry)) (length (now (out .entry))) lines at player [])
+        (now (out .entry)) (now (out .exit)) r
+        ⌝ }
 {
     let mut floats = [0.0f32; MAX_OUTPUT];
     let mut moved = player;
@@ -229,7 +248,7 @@ pub fn perform(
 
 // The parameters and the instances, once the calls are done.
 pub fn finish(player: Player, out: &mut [u8; MAX_REPORT]) -> usize
-    ensures { λ r. ⌜ Front (endText player) (now (out .exit)) r ⌝ }
+    ensures { λ r. ⌜ Front (endText player) (now (out .entry)) (now (out .exit)) r ⌝ }
 {
     let parameters = player.parameters;
     let instances = player.instances;
@@ -239,7 +258,7 @@ pub fn finish(player: Player, out: &mut [u8; MAX_REPORT]) -> usize
 
 // The line that says which line of a list is malformed.
 pub fn put_malformed(line: usize, out: &mut [u8; MAX_REPORT]) -> usize
-    ensures { λ r. ⌜ Front (malformedLine line) (now (out .exit)) r ⌝ }
+    ensures { λ r. ⌜ Front (malformedLine line) (now (out .entry)) (now (out .exit)) r ⌝ }
 {
     let behind_name = put_bytes(out, 0, b"malformed");
     let behind_line = put_decimal(out, behind_name, line);

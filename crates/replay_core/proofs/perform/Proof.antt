@@ -1,4 +1,4 @@
--- `replay_core::perform` meets its contract: each turn performs the first of the calls that are left. Assumes nothing.
+-- `replay_core::perform` meets its contract: each turn performs the first of the lines that are left. Assumes nothing.
 use native.Mathlib.Omega.{arith}
 use mathlib.Core.Path.{_≡_}
 use mathlib.Core.Logic.{inl, inr}
@@ -11,7 +11,8 @@ use Rattle.replay_core.proofs.perform.Tie as tie
 
 abbrev Inv-loop : tie.InvT-loop
 Inv-loop plan numbers text at lines out₀ floats₀ moved₀ here₀ left₀ length₀ out floats moved here left length =
-    (list.length floats ≡ maxOutput) × (list.length out ≡ list.length out₀) × Performed plan numbers text at lines moved₀ out here left moved length
+    (list.length floats ≡ maxOutput) × (list.length out ≡ list.length out₀)
+    × Performed plan numbers text at lines moved₀ out₀ out here left moved length
 
 abbrev μ-loop : tie.MeasureT-loop
 μ-loop plan numbers text at lines out₀ floats₀ moved₀ here₀ left₀ length₀ out floats moved here left length = left
@@ -20,7 +21,7 @@ loop-holds : tie.Need-loop-holds Inv-loop μ-loop
 loop-holds c = (search needs, search needs, nothing-performed _ _ _ _ _ _ _)
 
 sub-if1 : tie.Need-sub-if1 Inv-loop μ-loop
-sub-if1 c = c .before .loop .inv .2 .inside
+sub-if1 c = omega (arith, c .before .loop .inv .2 .inside)
 
 put-call-requires : tie.Need-put-call-requires Inv-loop μ-loop
 put-call-requires c κs =
@@ -31,17 +32,19 @@ loop-again : tie.Need-loop-again Inv-loop μ-loop
 loop-again c =
     let w = c .before .before .before in
     let d = w .before .before .before .before in
-    let l = d .before .before .before .before .before .loop in (
+    let l = d .before .before .before .before .before .loop in
+    let read = d .before .before .call-at .ensures in
+    let put = w .put-call .ensures in (
       d .call-done .ensures .1,
       search needs,
-      next-performed _ _ _ _ _ _ (l .inv .2) (omega arith) (omega arith) (d .before .before .call-at .ensures .1) (d .call-done .ensures .0) (w .put-call .ensures .0) (w .put-call .ensures .1),
+      next-performed _ _ _ _ _ _ _ (l .inv .2) (omega arith) (omega arith) (read .0) (read .1) (d .call-done .ensures .0) (put .0) (put .1),
     )
 
 returns : tie.Need-returns Inv-loop μ-loop
-returns c = performing _ _ _ _ _ _ _ (c .before .loop .inv .2) (inl (omega arith))
+returns c = performing _ _ _ _ _ _ _ _ (c .before .loop .inv .2) (inl (omega arith))
 
 returns-2 : tie.Need-returns-2 Inv-loop μ-loop
-returns-2 c = performing _ _ _ _ _ _ _ (c .before .before .loop .inv .2) (inr (omega arith))
+returns-2 c = performing _ _ _ _ _ _ _ _ (c .before .before .loop .inv .2) (inr (omega arith))
 
 pub perform-spec : {M : Type 1} → statement M
 perform-spec =
