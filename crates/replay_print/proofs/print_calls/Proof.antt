@@ -2,6 +2,7 @@
 use mathlib.Core.Path.{_≡_, _∙_}
 use lib.ListN.{length}
 use borrow.Author.Needs.{needs}
+use Rattle.replay_core.proofs.ListLaws.{fewer}
 use Rattle.replay_print.proofs.print_calls.Statement.{statement}
 use Rattle.replay_print.proofs.print_calls.Tie as tie
 
@@ -12,7 +13,9 @@ abbrev μ-loop : tie.MeasureT-loop
 μ-loop plan numbers calls lines out₀ moved₀ at₀ left₀ out moved at left = left
 
 loop-less : tie.Need-loop-less Inv-loop μ-loop
-loop-less c = c .before .before .before .before .before .perform .ensures .fewer (search needs) (search needs)
+loop-less c =
+    let p = c .before .before .before .before .before in
+    fewer _ _ _ _ _ _ (p .perform .ensures) (search needs) (search needs)
 
 loop-again : tie.Need-loop-again Inv-loop μ-loop
 loop-again c =
