@@ -1,5 +1,6 @@
 // Plays small figures through all calls and refusals, and prints what each call answers, the player and the matrices. Floats are their bits.
 // README.md lists the cases; each begins with its name.
+mod in_place;
 mod refusals;
 mod show;
 mod signs;
@@ -15,4 +16,5 @@ fn main() {
     signs::nothing_but_nan();
     unseen::sevens();
     unseen::nan();
+    in_place::beside_update();
 }

@@ -9,7 +9,8 @@ use Rattle.recorded_lists.proofs.run_list.Tie as tie
 figure-inside : (c : tie.After-read-front) → c .before .before .before .before .before .before .size-at .result ≤ length (c .read-front .last .0)
 figure-inside c = omega (arith, c .read-front .kept .0, c .before .before .before .if1)
 
-calls-inside : (c : tie.After-read-front2) → c .before .before .before .before .before .before .before .before .size-at2 .result ≤ length (c .read-front2 .last .0)
+calls-inside : (c : tie.After-read-front2)
+    → c .before .before .before .before .before .before .before .before .size-at2 .result ≤ length (c .read-front2 .last .0)
 calls-inside c = omega (arith, c .read-front2 .kept .0, c .before .before .before .before .before .before .if2)
 
 print-case-requires : tie.Need-print-case-requires
