@@ -19,3 +19,5 @@ pub mod Promises
 pub mod Laws
 pub mod Bench
 pub mod BenchText
+pub mod Wrap
+pub mod Unused

@@ -1,5 +1,5 @@
 -- Demand 3 is not vacuous: whatever calls one lists, an accepted start has a session of them; changing an unseen number, or a value set on an unread
--- parameter, keeps two figures or calls alike; and there are unseen numbers.
+-- parameter, keeps two figures or calls alike; and accepted figures have unseen numbers of every kind.
 use Prim.Native.Nat.{ℕ}
 use native.Mathlib.Omega.{arith}
 use native.Mathlib.Decide.{ℕ-discrete}
@@ -14,11 +14,13 @@ use Rattle.model.specs.declared.Player.{Player}
 use Rattle.model.specs.declared.Outcome.{Outcome}
 use Rattle.model.specs.Numbers.{0f}
 use Rattle.model.specs.Answers.{accepted, unlessRefused}
-use Rattle.model.specs.Plan.{PoseFloat}
+use Rattle.model.specs.Plan.{Rate, Value, Duration, PoseFloat}
+use Rattle.model.specs.Check.{check}
 use Rattle.model.specs.Controller.{withSpeed, updated, parameterSet, setVerdict, frameVerdict}
 use Rattle.model.specs.Skeleton.{written}
 use Rattle.model.specs.Run.{startVerdict, startPlayer, framePlayer, frameMatrices, Call, Update, Speed, Set, Frame}
 use Rattle.model.specs.Unseen.{Read}
+use Rattle.model.specs.Unused.{twoStates, unread, unused-unseen}
 use Rattle.model.specs.Laws.Opened.{check-opened}
 use Rattle.noninterference.specs.Alike.{Closed, UnseenAt, AlikeNumbers, AlikeCall, sets}
 use Rattle.noninterference.specs.Laws.Answers.{Answerable, require-answerable, check-answerable, frame-answerable}
@@ -83,9 +85,15 @@ unseen-alike plan chosen a k x u = record { lengths = sym (length-set a k x); pl
 pub unread-alike : (plan : List ℕ) (n : ℕ) (v w : Float) → ¬ Read plan n → AlikeCall plan (Set n v) (Set n w)
 unread-alike plan n v w unread = sets n v w (λ read. absurd (read unread))
 
--- and there are unseen places: of two roots with joint 0 chosen, joint 1's translation x, at place 9
+-- ---- and there are unseen places
+
+-- of an unchosen joint: of two roots with joint 0 chosen, joint 1's translation x, at place 9
 unfoldable pub twoRoots : List ℕ
 twoRoots = 2 ∷ 1 ∷ 0 ∷ 1 ∷ 0 ∷ 255 ∷ 255 ∷ 1 ∷ 1 ∷ 0 ∷ 0 ∷ 0 ∷ 0 ∷ 0 ∷ []
+
+pub two-roots-start : check twoRoots 17 ≡ accepted
+unfolding check-opened twoRoots
+two-roots-start = refl
 
 only-0 : (j : ℕ) → List·Memᴰ j (0 ∷ []) → j ≡ 0
 only-0 j (List·Memᴰ·head e) = e
@@ -100,3 +108,26 @@ two-roots-closed = record { are-joints = λ j m. rw (only-0 j m) (omega arith); 
 pub two-roots-unseen : UnseenAt twoRoots (0 ∷ []) 9
 unfolding check-opened twoRoots
 two-roots-unseen = record { name = PoseFloat 0 0 1 0; in-plan = (omega arith, omega arith, omega arith, omega arith); here = refl; unseen = inl (λ m. absurd (omega (arith, only-0 1 m))) }
+
+-- of what no reachable state uses, whatever joints are chosen: the rate of `twoStates`' clip 1, the value and the duration of its state 1, and the first
+-- float of clip 1's poses
+pub record UnusedPlaces (chosen : List ℕ) : Type 0 where
+  pub rate : UnseenAt twoStates chosen 1
+  pub value : UnseenAt twoStates chosen 2
+  pub duration : UnseenAt twoStates chosen 3
+  pub pose : UnseenAt twoStates chosen 20
+
+pub unused-places : (chosen : List ℕ) → UnusedPlaces chosen
+unfolding check-opened twoStates
+unused-places chosen =
+    let u = unused-unseen chosen in
+    record {
+      rate = record { name = Rate 1; in-plan = omega arith; here = refl; unseen = u .rate };
+      value = record { name = Value 1 0; in-plan = (omega arith, omega arith); here = refl; unseen = u .value };
+      duration = record { name = Duration 1 0; in-plan = (omega arith, omega arith); here = refl; unseen = u .duration };
+      pose = record { name = PoseFloat 1 0 0 0; in-plan = (omega arith, omega arith, omega arith, omega arith); here = refl; unseen = u .pose 0 0 };
+    }
+
+-- and the parameter that it declares may be set to anything
+pub parameter-0-free : (v w : Float) → AlikeCall twoStates (Set 0 v) (Set 0 w)
+parameter-0-free v w = unread-alike twoStates 0 v w (unread 0)

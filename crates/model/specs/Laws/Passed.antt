@@ -98,4 +98,5 @@ module _ (plan : List ℕ) (n : ℕ) (ok : check plan n ≡ accepted) where
 
   pub reachable-below : {s : ℕ} → Reachable plan s → s < stateCount plan
   reachable-below initial = initial-below
+  -- the check has seen every target
   reachable-below (target r t h) = target-below plan _ (state-passed _ (reachable-below r)) t h
