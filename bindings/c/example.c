@@ -55,19 +55,7 @@ static void *allocate(size_t count, size_t size)
 static const char *meaning(size_t number)
 {
     static const char *const meanings[] = {
-        "accepted",
-        "the plan ends too early; the place is its length",
-        "a count or the initial state is out of range, or there is a 65th clip node; the place is a word of the plan",
-        "a parent is neither 255 nor an earlier joint; the place is a word of the plan",
-        "a node's word is wrong, or a node is unused; the place is a word of the plan",
-        "a transition's word is wrong; the place is a word of the plan",
-        "the plan goes on after its last state; the place is the first word too much",
-        "there are not exactly as many numbers as the plan says",
-        "there is no parameter of this number: they are numbered 0 to 31",
-        "the player is in a state, or on the way to one, that the plan does not have",
-        "the output is too short",
-        "a line of the text is malformed, missing or too much, or has a count above its limit; the place is the line",
-        "the slices for plan and numbers are too short"
+#include "refusals.h"
     };
     return number < sizeof meanings / sizeof meanings[0] ? meanings[number] : "unknown to this host";
 }

@@ -64,19 +64,19 @@ typedef char gentianlathe_player_has_952_bytes[sizeof(gentianlathe_player) == 95
  * An answer. Number 0 is the acceptance, and place is then 0. Any other number is a refusal; where more
  * than one applies, the first in this order of checks is told:
  *
- *   number  what is wrong                                                            place
- *   1       the plan ends too early                                                  its length
- *   2       a count or the initial state is out of range, or a 65th clip node        that word (the node's kind)
- *   3       a parent that is neither 255 nor an earlier joint                        that word
- *   4       a node's word; or a node that nothing uses                               that word; K of the state
- *   5       a transition's word                                                      that word
- *   6       there are words after the last state                                     the first of them
- *   7       not exactly as many numbers as the plan says                             0
- *   8       a parameter number of 32 or above                                        0
- *   9       the player's state, or its running transition's target, is not there     0
- *   10      the output holds fewer than 16 floats a joint                            0
- *   11      a line of text is malformed, missing, too much, or has too large a count that line, from 1
- *   12      the plan or the numbers do not fit into the slices lent for them         0
+ *   number and what is wrong, as docs/FORMAT.md has it
+ *   1   the plan ends too early (place: its length)
+ *   2   a count or the initial state is out of range, or there is a 65th clip node (place: that word; the node's kind)
+ *   3   a parent is neither 255 nor an earlier joint (place: that word)
+ *   4   a node's word is wrong, or nothing uses a node (place: that word; K of the state)
+ *   5   a transition's parameter, operator or target is wrong (place: that word)
+ *   6   there are words after the last state (place: the first of them)
+ *   7   there are not exactly as many numbers as the plan says (place: 0)
+ *   8   a parameter number is 32 or above (place: 0)
+ *   9   the player's state, or its running transition's target, is not below S (place: 0)
+ *   10  the output holds fewer than 16 floats a joint (place: 0)
+ *   11  a line is malformed, missing or one too many, or has a count above its limit (place: that line, from 1)
+ *   12  the plan or number slice is too short (place: 0)
  *
  * Words are counted from 0. A refused call writes nothing to an output, a plan or numbers, and leaves every
  * field of the player as it was. (A refused start is the exception: it stores the blank player.)

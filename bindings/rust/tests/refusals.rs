@@ -348,3 +348,25 @@ fn other_numbers() {
         );
     }
 }
+
+/// The number and the source of each row of the one table of refusals.
+fn rows_of_the_table() -> Vec<(usize, &'static str)> {
+    let page = include_str!("../../../docs/FORMAT.md");
+    let row = |line: &'static str| {
+        let mut fields = line.strip_prefix("| ")?.split(" | ");
+        Some((fields.next()?.parse().ok()?, fields.next()?))
+    };
+    page.lines().filter_map(row).collect()
+}
+
+#[test]
+fn as_many_as_the_table_has() {
+    let rows = rows_of_the_table();
+    let numbers: Vec<usize> = rows.iter().map(|row| row.0).collect();
+    assert_eq!(numbers, (1..=rows.len()).collect::<Vec<_>>());
+    for (number, from) in rows {
+        let refusal = Refusal::from_answer(number, 0).expect("a refusal");
+        let unknown = matches!(refusal, Refusal::Other { .. });
+        assert_eq!(unknown, from == "program", "{number} from {from}");
+    }
+}
