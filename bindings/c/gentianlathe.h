@@ -5,8 +5,9 @@
  * The header is C99 and C++. NOTICE has the licence of what was ported.
  *
  * A figure is a plan (16-bit words: joints, clips, blend trees, transitions) with its numbers (rates,
- * values, durations and poses); docs/FORMAT.md says what they hold. A player is what moves: clock, speed,
- * state, parameters. Every call answers on every content of what it is lent; none makes it undefined.
+ * values, durations and poses); docs/FORMAT.md says what they hold, docs/PLAYING.md how they play and which
+ * way rotations turn. A player is what moves: clock, speed, state, parameters. Every call answers on every
+ * content of what it is lent; none makes it undefined.
  * A host promises only this about its pointers:
  *
  *   - not null and aligned for their type, also where the length beside them is 0;
@@ -127,7 +128,10 @@ gentianlathe_answer gentianlathe_frame(const uint16_t *plan, size_t plan_length,
                                        gentianlathe_player *player, double ext,
                                        float *output, size_t output_length);
 
-/* The same, but that the upper 3x3 of each matrix is transposed in the end. Refused likewise. */
+/*
+ * The same, but that the upper 3x3 of each matrix is transposed in the end; docs/PLAYING.md says what for, and what
+ * that does to a child of a turned parent. Refused likewise.
+ */
 gentianlathe_answer gentianlathe_page_frame(const uint16_t *plan, size_t plan_length,
                                             const float *numbers, size_t numbers_length,
                                             gentianlathe_player *player, double ext,
