@@ -2,3 +2,5 @@
 pub mod Laws
 -- A number changes a struct where it lies
 pub mod Changed
+-- A function that makes one call
+pub mod OneCall

@@ -192,7 +192,8 @@ fn framed(
     output: &mut [f32],
 ) -> Outcome
     ensures { λ r. ⌜
-        Framed kind (now (plan .entry)) (now (numbers .entry)) player ext (now (output .entry)) (now (output .exit)) r
+        Framed kind (now (plan .entry)) (now (numbers .entry)) player ext
+        (now (output .entry)) (now (output .exit)) r
         ⌝ }
 {
     let transition = player.transition;
@@ -219,7 +220,8 @@ fn framed(
 
 pub fn frame(plan: &[u16], numbers: &[f32], player: Player, ext: f64, output: &mut [f32]) -> Outcome
     ensures { λ r. ⌜
-        Framed Ordinary (now (plan .entry)) (now (numbers .entry)) player ext (now (output .entry)) (now (output .exit)) r
+        Framed Ordinary (now (plan .entry)) (now (numbers .entry)) player ext
+        (now (output .entry)) (now (output .exit)) r
         ⌝ }
 {
     framed(FrameKind::Ordinary, plan, numbers, player, ext, output)
@@ -233,7 +235,8 @@ pub fn page_frame(
     output: &mut [f32],
 ) -> Outcome
     ensures { λ r. ⌜
-        Framed Page (now (plan .entry)) (now (numbers .entry)) player ext (now (output .entry)) (now (output .exit)) r
+        Framed Page (now (plan .entry)) (now (numbers .entry)) player ext
+        (now (output .entry)) (now (output .exit)) r
         ⌝ }
 {
     framed(FrameKind::Page, plan, numbers, player, ext, output)

@@ -17,7 +17,7 @@ use prog.Wp.{Heap, Calls, Loops, WpFn, Tables}
 use ghost.Atoms.{Atoms}
 use contract.Lifetimes.{Lfts}
 use contract.Monad.{Fun, fact}
-use contract.Running.{givenOf, tables, tablesOf}
+use contract.Running.{givenOf}
 use types.Kit.{Given, Item, ‵, raw, _⊛_, ⋆, some, later, _$_, _∵_, !, qed, by, move, keep, drop, use1, use2, use3, rewrite, split, join, pick}
 use types.Kit.{fsplit, fsplit3, fjoin, fjoin3, feqI, feqL, suffices, frame, await, mean, done}
 use types.Part.{whole, sub, look-in, store-in, agg}
@@ -42,7 +42,6 @@ use denote.Triple.Statement.{Contract, Triple}
 use denote.Triple.Call.{calls-at}
 use denote.Triple.Entry.{onEntry}
 use denote.Triple.Spec.{Meets, tripleOf}
-use denote.Triple.Table.{entered, cited}
 use denote.Triple.Walked.{says, Stays, stay-ref, stay-dropped, gave-slice, walkOf, AllGo, goes-dropped, goes-gave-slice, goes-ref, ends-at, walked, walk-meets}
 use denote.Triple.Clauses.{lasts}
 use denote.Exit.{yes}
@@ -62,9 +61,9 @@ use Rattle.host_player.proofs.HostFrame.Laws as R′
 use Rattle.host_player.proofs.HostAnswer as N
 use Rattle.host_player.proofs.HostAnswer.Laws as N′
 use Rattle.host_player.proofs.host_frame as core
-use Rattle.host_player.proofs.host_frame.Symbol as core-def
 use Rattle.host_player.proofs.host_frame.Symbol.{name as #core}
 use Rattle.host_player.proofs.host_frame.Met as core-thm
+use Rattle.controller.proofs.OneCall.{over-call}
 use Rattle.capi.proofs.Lent.{shut, opened}
 use Rattle.capi.proofs.Arrays.{parametersAt, instancesAt, Parameters, Instances, partsOf, withInstances, parameters, instances, Loans, Lent, lends, comes-back}
 use Rattle.capi.proofs.frame_in_place.Key.{name as #frame-in-place}
@@ -326,9 +325,7 @@ module _ {M : Type 1} (𝓤 : URA M) (H : Heap 𝓤) (A : Atoms 𝓤) (W : Given
       (i .0 .ptr .0) (i .0 .ptr .1) (i .0 .name) (i .0 .now) (i .1 .0) (y .ptr .0) (y .ptr .1) (y .name) (y .now) (𝓣 .C) (𝓣 .Λ) (fmOf 𝓤 H (W .laws) 𝓣) known (are .1 .0) (are .1 .1 .0) (are .1 .1 .1 .1 .0) (are .1 .1 .1 .1 .1 .0 .0 .1))))
 
 pub frame-in-place-spec : {M : Type 1} → stated.statement M
-unfolding code.routine tablesOf
+unfolding code.routine
 frame-in-place-spec 𝓤 H 𝓜 𝓖 𝓡 =
-    entered 𝓤 H (tripleOf 𝓤 H (𝓖 .A) f.signature (f.spec 𝓤 H (𝓖 .A) (𝓜 .mem) (𝓡 .run)))
-    (tables 𝓤 H 𝓜 𝓡 code.env .C) (tables 𝓤 H 𝓜 𝓡 code.env .Λ) #frame-in-place code.function (code.unfolded 𝓤 H 𝓜 𝓡)
-    (meets 𝓤 H (𝓖 .A) (givenOf 𝓤 H 𝓜 𝓖) (𝓜 .mem) (𝓡 .run) (tablesOf 𝓤 H 𝓜 (tables 𝓤 H 𝓜 𝓡 code.env))
-    (cited 𝓤 H (Core 𝓤 H (𝓖 .A) (𝓜 .mem) (𝓡 .run)) 𝓜 𝓡 code.env #core core-def.routine code.calls-host-player·host-frame (core-thm.met 𝓤 H 𝓜 𝓖 𝓡)))
+    over-call 𝓤 H 𝓜 𝓡 code.env _ _ _ #frame-in-place code.function (code.unfolded 𝓤 H 𝓜 𝓡) #core code.calls-host-player·host-frame (core-thm.met 𝓤 H 𝓜 𝓖 𝓡)
+    (meets 𝓤 H (𝓖 .A) (givenOf 𝓤 H 𝓜 𝓖) (𝓜 .mem) (𝓡 .run))

@@ -15,7 +15,7 @@ use prog.Routine.{Routine}
 use prog.Wp.{Heap, Calls, Loops, WpFn, Tables}
 use ghost.Atoms.{Atoms, sem}
 use contract.Monad.{Fun, fact}
-use contract.Running.{givenOf, tables, tablesOf}
+use contract.Running.{givenOf}
 use types.Kit.{Given, Item, ‵, raw, _⊛_, ⋆, some, later, _$_, _∵_, !, qed, by, move, keep, drop, use1, use2, rewrite, split, join, pick, fsplit, fsplit3, fjoin, fjoin3}
 use types.Kit.{feqI, suffices, frame, await, done}
 use types.Part.{whole, sub, look-in}
@@ -38,7 +38,6 @@ use denote.Triple.Statement.{Contract, Triple}
 use denote.Triple.Call.{calls-at}
 use denote.Triple.Entry.{Vals, onEntry}
 use denote.Triple.Spec.{Meets, tripleOf}
-use denote.Triple.Table.{entered, cited}
 use denote.Triple.Walked.{says, Stays, stay-ref, stay-dropped, walkOf, goes-dropped, goes-ref, ends-at, walked, walk-meets}
 use denote.Triple.Clauses.{ensured, lasts}
 use denote.Exit.{yes}
@@ -52,9 +51,9 @@ use Rattle.host_player.proofs.HostOutcome.Laws as R′
 use Rattle.host_player.proofs.HostAnswer as N
 use Rattle.host_player.proofs.HostAnswer.Laws as N′
 use Rattle.host_player.proofs.parameter_set as callee
-use Rattle.host_player.proofs.parameter_set.Symbol as callee-def
 use Rattle.host_player.proofs.parameter_set.Symbol.{name as #callee}
 use Rattle.host_player.proofs.parameter_set.Met as callee-thm
+use Rattle.controller.proofs.OneCall.{over-call}
 use Rattle.capi.proofs.gentianlathe_set.Key.{name}
 use Rattle.capi.proofs.gentianlathe_set as f
 use Rattle.capi.proofs.gentianlathe_set.Statement as stated
@@ -174,9 +173,7 @@ module _ {M : Type 1} (𝓤 : URA M) (H : Heap 𝓤) (A : Atoms 𝓤) (W : Given
       (walk (κs .0) (qs .0) (a .0 .ptr .0) (a .0 .ptr .1) (a .0 .name) (a .0 .now) (a .1 .0) (a .1 .1 .0) (𝓣 .C) (𝓣 .Λ) (fmOf 𝓤 H (W .laws) 𝓣) known (are .1 .0) (are .1 .1 .0))))
 
 pub gentianlathe-set-spec : {M : Type 1} → stated.statement M
-unfolding code.routine tablesOf
+unfolding code.routine
 gentianlathe-set-spec 𝓤 H 𝓜 𝓖 𝓡 =
-    entered 𝓤 H (tripleOf 𝓤 H (𝓖 .A) f.signature (f.spec 𝓤 H (𝓖 .A) (𝓜 .mem) (𝓡 .run)))
-    (tables 𝓤 H 𝓜 𝓡 code.env .C) (tables 𝓤 H 𝓜 𝓡 code.env .Λ) name code.function (code.unfolded 𝓤 H 𝓜 𝓡)
-    (meets 𝓤 H (𝓖 .A) (givenOf 𝓤 H 𝓜 𝓖) (𝓜 .mem) (𝓡 .run) (tablesOf 𝓤 H 𝓜 (tables 𝓤 H 𝓜 𝓡 code.env))
-    (cited 𝓤 H (Callee 𝓤 H (𝓖 .A) (𝓜 .mem) (𝓡 .run)) 𝓜 𝓡 code.env #callee callee-def.routine code.calls-host-player·parameter-set (callee-thm.met 𝓤 H 𝓜 𝓖 𝓡)))
+    over-call 𝓤 H 𝓜 𝓡 code.env _ _ _ name code.function (code.unfolded 𝓤 H 𝓜 𝓡) #callee code.calls-host-player·parameter-set (callee-thm.met 𝓤 H 𝓜 𝓖 𝓡)
+    (meets 𝓤 H (𝓖 .A) (givenOf 𝓤 H 𝓜 𝓖) (𝓜 .mem) (𝓡 .run))
