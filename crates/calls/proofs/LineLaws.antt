@@ -26,8 +26,8 @@ use Rattle.calls.specs.declared.Call.{Call}
 use Rattle.calls.specs.declared.Call.the-variants.{Malformed, Update, Speed, Set, Frame}
 use Rattle.calls.specs.declared.CallAt.{CallAt}
 use Rattle.calls.specs.CallText.{updateName, speedName, setName, frameName, pageName, CallLine, malformed, line}
-use Rattle.calls.specs.CallText.{behindComma, fieldThen, wideField, bitsField, decimalField, lineEnd, timeLine, setLine, frameLine, callIn}
-use Rattle.calls.specs.Read.{timedCall, timeOf, behind, lineOf, lineEndOf, isMalformed, lineRead, asCall, noCall, lineAt, callAt, CallRead}
+use Rattle.calls.specs.CallText.{behindComma, behindField, wideField, bitsField, decimalField, lineEnd, timeLine, setLine, frameLine, callIn}
+use Rattle.calls.specs.Read.{timedCall, timeOf, behind, lineOf, lineEndOf, isMalformed, lineRead, asCall, noCall, callPlaced, callAt, CallRead}
 
 -- ---- fields
 
@@ -112,8 +112,8 @@ module _ {text : List ℕ} {l : CallLine} {r : CallAt} where
 -- what is read of a line is the call at its place
 module _ (text : List ℕ) where
   there-and-back : (call : Call) (end : ℕ) → end ≤ length text → (isMalformed call ≡ true → end ≡ 0)
-      → _≡_ {A = CallAt} (record { call = call; end = end }) (lineAt text (lineOf call (drop end text)))
-  unfolding lineAt lineOf asCall
+      → _≡_ {A = CallAt} (record { call = call; end = end }) (callPlaced text (lineOf call (drop end text)))
+  unfolding callPlaced lineOf asCall
   there-and-back Malformed end inside nowhere = ap (placed Malformed) (nowhere refl)
   there-and-back (Update delta) end inside nowhere = ap (placed (Update delta)) (omega (arith, length-drop end text))
   there-and-back (Speed value) end inside nowhere = ap (placed (Speed value)) (omega (arith, length-drop end text))
@@ -122,16 +122,16 @@ module _ (text : List ℕ) where
 
   pub call-there : (at : ℕ) {r : CallAt} → CallRead text (callIn (drop at text)) r → (r ≡ callAt text at) × (lineRead text r ≡ callIn (drop at text))
   unfolding lineRead
-  call-there at {r} c = (there-and-back (r .call) (r .end) (c .inside) (c .nowhere) ∙ ap (lineAt text) (c .reading), c .reading)
+  call-there at {r} c = (there-and-back (r .call) (r .end) (c .inside) (c .nowhere) ∙ ap (callPlaced text) (c .reading), c .reading)
 
 -- the field of a line was read to f, and `more` follows
 module _ (text : List ℕ) {f : Field} {s : Text.Field} (read : found text f ≡ s) (more : ℕ → List ℕ → CallLine) where
-  pub without : f ≡ Nothing → malformed ≡ fieldThen s more
-  unfolding found fieldThen
+  pub without : f ≡ Nothing → malformed ≡ behindField s more
+  unfolding found behindField
   without e = rw (← read, e)
 
-  pub with-value : {v end : ℕ} → f ≡ Value v end → more v (drop end text) ≡ fieldThen s more
-  unfolding found fieldThen
+  pub with-value : {v end : ℕ} → f ≡ Value v end → more v (drop end text) ≡ behindField s more
+  unfolding found behindField
   with-value e = rw (← read, e)
 
 -- the program's call is the text's
@@ -256,11 +256,11 @@ end-spends call s c rest e = at (eqb (front s) lineFeed) refl e
         omega (arith, length-drop 1 s, ap length p, there s 0 (omega arith))
     at false t e = absurd (malformed-line e)
 
-then-spends : (read : List ℕ → Text.Field) (more : ℕ → List ℕ → CallLine) → Keeps read → ((v : ℕ) → Spends (more v)) → Spends (λ s. fieldThen (read s) more)
-unfolding fieldThen
+then-spends : (read : List ℕ → Text.Field) (more : ℕ → List ℕ → CallLine) → Keeps read → ((v : ℕ) → Spends (more v)) → Spends (λ s. behindField (read s) more)
+unfolding behindField
 then-spends read more keeps spends s c rest e = at (read s) refl e
   where
-    at : (f : Text.Field) → read s ≡ f → fieldThen f more ≡ line c rest → length rest < length s
+    at : (f : Text.Field) → read s ≡ f → behindField f more ≡ line c rest → length rest < length s
     at none h e = absurd (malformed-line e)
     at (field v left) h e = omega (arith, keeps s v left h, spends v left c rest e)
 
@@ -271,13 +271,13 @@ name-spends name f other spends others s c rest e = at (begins name s) e
     at true e = omega (arith, length-drop (length name) s, spends (drop (length name) s) c rest e)
     at false e = others s c rest e
 
-wide-then : (more : ℕ → List ℕ → CallLine) → ((v : ℕ) → Spends (more v)) → Spends (λ s. fieldThen (wideField s) more)
+wide-then : (more : ℕ → List ℕ → CallLine) → ((v : ℕ) → Spends (more v)) → Spends (λ s. behindField (wideField s) more)
 wide-then more = then-spends wideField more (comma-keeps wideBitsIn wide-keeps)
 
-decimal-then : (more : ℕ → List ℕ → CallLine) → ((v : ℕ) → Spends (more v)) → Spends (λ s. fieldThen (decimalField s) more)
+decimal-then : (more : ℕ → List ℕ → CallLine) → ((v : ℕ) → Spends (more v)) → Spends (λ s. behindField (decimalField s) more)
 decimal-then more = then-spends decimalField more (comma-keeps (fieldIn (Decimal maxWord)) (field-keeps (Decimal maxWord)))
 
-bits-then : (more : ℕ → List ℕ → CallLine) → ((v : ℕ) → Spends (more v)) → Spends (λ s. fieldThen (bitsField s) more)
+bits-then : (more : ℕ → List ℕ → CallLine) → ((v : ℕ) → Spends (more v)) → Spends (λ s. behindField (bitsField s) more)
 bits-then more = then-spends bitsField more (comma-keeps (fieldIn Bits) (field-keeps Bits))
 
 frame-spends : (kind : FrameKind) → Spends (frameLine kind)

@@ -39,9 +39,9 @@ pub data CallLine : Type 0 where
 unfoldable pub behindComma : (List ℕ → Field) → List ℕ → Field
 behindComma read s = cond (eqb (front s) comma) (read (drop 1 s)) none
 
-unfoldable pub fieldThen : Field → (ℕ → List ℕ → CallLine) → CallLine
-fieldThen none more = malformed
-fieldThen (field v rest) more = more v rest
+unfoldable pub behindField : Field → (ℕ → List ℕ → CallLine) → CallLine
+behindField none more = malformed
+behindField (field v rest) more = more v rest
 
 -- D, F, and N or L
 abbrev pub wideField : List ℕ → Field
@@ -59,13 +59,13 @@ lineEnd call s = cond (eqb (front s) lineFeed) (line call (drop 1 s)) malformed
 
 -- behind the names of lines
 unfoldable pub timeLine : (Float → Call) → List ℕ → CallLine
-timeLine make s = fieldThen (wideField s) (λ d rest. lineEnd (make (ofBits binary64 d)) rest)
+timeLine make s = behindField (wideField s) (λ d rest. lineEnd (make (ofBits binary64 d)) rest)
 
 unfoldable pub setLine : List ℕ → CallLine
-setLine s = fieldThen (decimalField s) (λ n rest. fieldThen (bitsField rest) (λ v. lineEnd (Set n (ofBits binary32 v))))
+setLine s = behindField (decimalField s) (λ n rest. behindField (bitsField rest) (λ v. lineEnd (Set n (ofBits binary32 v))))
 
 unfoldable pub frameLine : FrameKind → List ℕ → CallLine
-frameLine kind s = fieldThen (wideField s) (λ d rest. fieldThen (decimalField rest) (λ n. lineEnd (Frame kind (ofBits binary64 d) n)))
+frameLine kind s = behindField (wideField s) (λ d rest. behindField (decimalField rest) (λ n. lineEnd (Frame kind (ofBits binary64 d) n)))
 
 unfoldable pub callIn : List ℕ → CallLine
 callIn s =

@@ -56,12 +56,12 @@ asCall (Run.Frame kind ext length) = Frame kind ext length
 abbrev pub noCall : CallAt
 noCall = record { call = Malformed; end = 0 }
 
-unfoldable pub lineAt : List ℕ → CallLine → CallAt
-lineAt text malformed = noCall
-lineAt text (line c rest) = record { call = asCall c; end = length text - length rest }
+unfoldable pub callPlaced : List ℕ → CallLine → CallAt
+callPlaced text malformed = noCall
+callPlaced text (line c rest) = record { call = asCall c; end = length text - length rest }
 
 abbrev pub callAt : List ℕ → ℕ → CallAt
-callAt text at = lineAt text (callIn (drop at text))
+callAt text at = callPlaced text (callIn (drop at text))
 
 -- what was read is this line of the text, no more and no less
 pub record CallRead (text : List ℕ) (l : CallLine) (r : CallAt) : Type 0 where

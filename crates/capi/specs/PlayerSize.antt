@@ -6,8 +6,8 @@ use mir.Syntax.{Ty}
 use prog.Memory.{size, fieldOf}
 use Rattle.host_player.proofs.HostPlayer.Laws.{mir as player}
 
-abbrev pub playerSize : ℕ
-playerSize = size player
+abbrev pub playerBytes : ℕ
+playerBytes = size player
 
 -- where field k begins
 abbrev placeIn : Option (Ty × ℕ) → ℕ

@@ -14,7 +14,7 @@ use Rattle.round_trip.specs.Theorems.{words-most}
 use Rattle.host_player.specs.declared.HostTextAnswer.{HostTextAnswer}
 use Rattle.host_player.specs.HostPlayer.{hostTextAnswer}
 use Rattle.host_player.specs.HostPromises.{HostTextRead}
-use Rattle.capi.specs.PlayerSize.{playerSize, fieldPlace}
+use Rattle.capi.specs.PlayerSize.{playerBytes, fieldPlace}
 
 module _ (text : List ℕ) (w n : ℕ) (words-room : maxPlan ≤ w) (numbers-room : length text / numberBytes ≤ n) where
   never-short : (x : Reading) → readFigure text ≡ x → hostTextAnswer (textVerdict x w n) .number ≡ 12 → ⊥
@@ -32,5 +32,5 @@ room-enough text planOld planNew numbersOld numbersNew r done w n e =
     never-short text (length planOld) (length numbersOld) w n (readFigure text) refl (sym (ap (λ (a : HostTextAnswer). a .number) (done .answer)) ∙ e)
 
 -- the layout that the header of C and the crate of Rust declare: running, the duration, the parameters, the instances, and the end
-pub player-laid-out : (fieldPlace 3 ≡ 24) × (fieldPlace 6 ≡ 48) × (fieldPlace 7 ≡ 52) × (fieldPlace 8 ≡ 180) × (playerSize ≡ 952)
+pub player-laid-out : (fieldPlace 3 ≡ 24) × (fieldPlace 6 ≡ 48) × (fieldPlace 7 ≡ 52) × (fieldPlace 8 ≡ 180) × (playerBytes ≡ 952)
 player-laid-out = (refl, refl, refl, refl, refl)

@@ -25,7 +25,7 @@ ghost use Rattle.model.specs.Plan.{maxPlan, jointCount, outputAt};
 ghost use Rattle.model.specs.Program.{numberBytes};
 ghost use Rattle.host_player.specs.HostPromises.{HostStarted, HostUpdated, HostSpeedSet, HostParameterSet};
 ghost use Rattle.host_player.specs.HostPromises.{HostFramed, HostTextRead};
-ghost use Rattle.capi.specs.PlayerSize.{playerSize};
+ghost use Rattle.capi.specs.PlayerSize.{playerBytes};
 
 // ---- start, update, speed, set
 
@@ -169,7 +169,7 @@ const PLAYER_SIZE: usize = (6 * 8 + 4 * (1 + MAX_PARAMETERS + MAX_INSTANCES) + 7
 // For a host to hold its own struct to. The contract takes it from the struct's type.
 #[no_mangle]
 pub extern "C" fn gentianlathe_player_size() -> usize
-    ensures { λ r. ⌜ r ≡ playerSize ⌝ }
+    ensures { λ r. ⌜ r ≡ playerBytes ⌝ }
 {
     PLAYER_SIZE
 }

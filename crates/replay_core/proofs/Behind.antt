@@ -16,10 +16,10 @@ use Rattle.model.specs.declared.FrameKind.the-variants.{Ordinary, Page}
 use Rattle.model.specs.Run.{Call, Update, Speed}
 use Rattle.model.specs.Text.{front, comma, lineFeed, maxWord, baseOf, digitCount, isField, Field, none, field, fieldIn, begins}
 use Rattle.fields.specs.Wide.{wideBitsIn}
-use Rattle.calls.specs.CallText.{CallLine, malformed, line, behindComma, fieldThen, wideField, bitsField, decimalField}
+use Rattle.calls.specs.CallText.{CallLine, malformed, line, behindComma, behindField, wideField, bitsField, decimalField}
 use Rattle.calls.specs.CallText.{updateName, speedName, setName, frameName, pageName}
 use Rattle.calls.specs.CallText.{lineEnd, timeLine, setLine, frameLine, callIn}
-use Rattle.calls.specs.Read.{lineAt, callAt}
+use Rattle.calls.specs.Read.{callPlaced, callAt}
 
 -- a text's rear part
 record Rear (s rest : List ℕ) : Type 0 where
@@ -70,8 +70,8 @@ comma-rear read rear s =
     either (FieldRear s) (eqb (front s) comma) (later-field (dropped s 1) (rear (drop 1 s))) no-field
 
 then-rear : {s : List ℕ} {f : Field} (more : ℕ → List ℕ → CallLine) → FieldRear s f
-    → ((v : ℕ) (rest : List ℕ) → LineRear rest (more v rest)) → LineRear s (fieldThen f more)
-unfolding fieldThen
+    → ((v : ℕ) (rest : List ℕ) → LineRear rest (more v rest)) → LineRear s (behindField f more)
+unfolding behindField
 then-rear more no-field ends = no-line
 then-rear more (a-field {v} {rest} rear) ends = later-line rear (ends v rest)
 
@@ -130,7 +130,7 @@ rear-place s k = go (leb k (length s)) refl
 
 pub text-behind : (text : List ℕ) (at : ℕ) {c : Call} {rest : List ℕ} → callIn (drop at text) ≡ line c rest
     → drop (callAt text at .end) text ≡ rest
-unfolding lineAt
+unfolding callPlaced
 text-behind text at {c} {rest} e = go (rw e at (call-rear (drop at text)))
   where
     go : LineRear (drop at text) (line c rest) → drop (callAt text at .end) text ≡ rest

@@ -37,7 +37,7 @@ use Rattle.report.specs.Report.{below, matrixLines, answerLine, playerText, obs
 use Rattle.report.proofs.Laws.{no-matrix-lines, matrix-lines-below}
 use Rattle.replay_core.specs.declared.CallDone.{CallDone}
 use Rattle.replay_core.specs.Replay.{startText}
-use Rattle.replay_core.specs.Replaying.{NothingShown, callText, allShown, Done, lineAfter, lineText, Called, Beginning}
+use Rattle.replay_core.specs.Replaying.{NothingShown, callText, allShown, Done, lineAfter, lineReport, Called, Beginning}
 
 -- ---- room for a frame
 
@@ -134,8 +134,8 @@ module _ (plan : List ℕ) (numbers : List Float) (p : Player) (kind : FrameKind
 -- ---- the call of a line
 
 module _ (plan : List ℕ) (numbers : List Float) (p : Player) (floats : List Float) (d : CallDone) where
-  call-text : (c : Call) (rest : List ℕ) → Done plan numbers p c floats d → callText d floats ≡ lineText plan numbers p (line c rest)
-  unfolding callText lineText observationText observation
+  call-text : (c : Call) (rest : List ℕ) → Done plan numbers p c floats d → callText d floats ≡ lineReport plan numbers p (line c rest)
+  unfolding callText lineReport observationText observation
   call-text c rest h = rw (h .answer, h .player, h .shown)
 
   module _ (call : Read.Call) where
@@ -150,7 +150,7 @@ module _ (plan : List ℕ) (numbers : List Float) (p : Player) (floats : List Fl
         }
 
     pub malformed-called : call ≡ read.Malformed → NothingShown Accepted p d → Called plan numbers p call floats d
-    unfolding lineOf lineAfter lineText callText observationText observation values unlessRefused joined
+    unfolding lineOf lineAfter lineReport callText observationText observation values unlessRefused joined
     malformed-called e h =
         record {
           few = omega arith;

@@ -20,7 +20,7 @@ use Rattle.calls.proofs.Laws.{first-call}
 use Rattle.replay_core.specs.declared.CallDone.{CallDone}
 use Rattle.replay_core.specs.declared.Progress.{Progress}
 use Rattle.replay_core.specs.Replay.{texts, reportFrom, playerAfter}
-use Rattle.replay_core.specs.Replaying.{maxReport, Called, callText, lineAfter, lineText}
+use Rattle.replay_core.specs.Replaying.{maxReport, Called, callText, lineAfter, lineReport}
 use Rattle.replay_core.specs.Replaying.{Performance, performed, Performing}
 use Rattle.replay_core.proofs.Behind.{text-behind}
 
@@ -30,7 +30,7 @@ module _ (plan : List ℕ) (numbers : List Float) (text : List ℕ) where
   next room n at p shown =
       let here = callIn (drop at text) in
       performed plan numbers text room n (callAt text at .end) (lineAfter plan numbers p here)
-      (shown ++ lineText plan numbers p here)
+      (shown ++ lineReport plan numbers p here)
 
   -- ---- the loop
 
@@ -78,11 +78,11 @@ module _ (plan : List ℕ) (numbers : List Float) (text : List ℕ) where
     unfolding lineRead
     next-performed {here = here} {q = q} {r = r} so-far some room there read called put longest =
         let rest = drop (r .end) text in
-        let shown = called .text rest ∙ ap (lineText plan numbers q) read in
+        let shown = called .text rest ∙ ap (lineReport plan numbers q) read in
         let moved = called .player rest ∙ ap (lineAfter plan numbers q) read in
         let end = ap (λ (x : CallAt). x .end) there in
         record {
-          shown = so-far .shown ++ lineText plan numbers q (callIn (drop here text));
+          shown = so-far .shown ++ lineReport plan numbers q (callIn (drop here text));
           put = rw shown at (more-written (so-far .put) put);
           inside = omega arith;
           same = so-far .same ∙ rw (moved, end) (goes-on (length before) _ here q (so-far .shown) some (omega (arith, so-far .put .ended)));
@@ -117,12 +117,12 @@ module _ (plan : List ℕ) (numbers : List Float) (text : List ℕ) where
       let e = ap (λ (x : Progress). x .lines) (done .progress) ∙ ap (λ (x : Performance). x .lines) on in
       let here = callIn (drop at text) in
       omega
-      (arith, no-more (length before) (lines - 1) (callAt text at .end) (lineAfter plan numbers p here) (lineText plan numbers p here))
+      (arith, no-more (length before) (lines - 1) (callAt text at .end) (lineAfter plan numbers p here) (lineReport plan numbers p here))
 
   -- the first of some calls, by its line
   module _ (p : Player) {cs later : List Call} {c : Call} {l : CallLine} {behind : List ℕ} (split : cs ≡ c ∷ later) (here : l ≡ line c behind) where
-    report-next : reportFrom plan numbers p cs ≡ lineText plan numbers p l ++ reportFrom plan numbers (lineAfter plan numbers p l) later
-    unfolding lineText lineAfter reportFrom texts runFrom
+    report-next : reportFrom plan numbers p cs ≡ lineReport plan numbers p l ++ reportFrom plan numbers (lineAfter plan numbers p l) later
+    unfolding lineReport lineAfter reportFrom texts runFrom
     report-next = rw (split, here)
 
     player-next : playerAfter plan numbers p cs ≡ playerAfter plan numbers (lineAfter plan numbers p l) later

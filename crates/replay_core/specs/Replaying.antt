@@ -56,9 +56,9 @@ module _ (plan : List ℕ) (numbers : List Float) (p : Player) where
   lineAfter malformed = p
   lineAfter (line c rest) = after plan numbers p c
 
-  unfoldable pub lineText : CallLine → List ℕ
-  lineText malformed = observationText (observation accepted p [])
-  lineText (line c rest) =
+  unfoldable pub lineReport : CallLine → List ℕ
+  lineReport malformed = observationText (observation accepted p [])
+  lineReport (line c rest) =
       let shown = chosenFloats plan numbers (below (jointCount plan)) p c in
       observationText (observation (callVerdict plan numbers p c) (after plan numbers p c) shown)
 
@@ -66,7 +66,7 @@ module _ (plan : List ℕ) (numbers : List Float) (p : Player) where
   pub record Called (call : Read.Call) (floats : List Float) (r : CallDone) : Type 0 where
     pub few : r .joints ≤ maxJoints
     pub player : (rest : List ℕ) → r .player ≡ lineAfter (lineOf call rest)
-    pub text : (rest : List ℕ) → callText r floats ≡ lineText (lineOf call rest)
+    pub text : (rest : List ℕ) → callText r floats ≡ lineReport (lineOf call rest)
 
 -- ---- a list
 
@@ -89,7 +89,7 @@ module _ (plan : List ℕ) (numbers : List Float) (text : List ℕ) (room : ℕ)
   performed (suc n) at p shown =
       let here = callIn (drop at text) in
       cond (ltb room (length shown + maxReport)) (record { player = p; at = at; lines = suc n; shown = shown })
-      (performed n (callAt text at .end) (lineAfter plan numbers p here) (shown ++ lineText plan numbers p here))
+      (performed n (callAt text at .end) (lineAfter plan numbers p here) (shown ++ lineReport plan numbers p here))
 
 -- the whole outcome of performing lines
 pub record Performing (all : Performance) (before after : List ℕ) (r : Progress) : Type 0 where

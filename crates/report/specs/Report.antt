@@ -17,8 +17,8 @@ use Rattle.model.specs.Run.{Observation}
 use Rattle.printing.specs.Written.{floatFields}
 
 -- the bits of a 64-bit float, every NaN as 7ff8000000000000, which is how toBits writes it
-abbrev pub wideField : Float → List ℕ
-wideField x = comma ∷ digits 16 16 (toBits binary64 x)
+abbrev pub wideText : Float → List ℕ
+wideText x = comma ∷ digits 16 16 (toBits binary64 x)
 
 -- `ok`, by its bytes, or the refusal
 unfoldable pub answerLine : Verdict → List ℕ
@@ -30,13 +30,13 @@ unfoldable pub transitionFields : Transition → List ℕ
 transitionFields Idle = 44 ∷ 105 ∷ 100 ∷ 108 ∷ 101 ∷ []
 transitionFields (Running start target duration) =
     (44 ∷ 114 ∷ 117 ∷ 110 ∷ 110 ∷ 105 ∷ 110 ∷ 103 ∷ []) ++
-    wideField start ++ decimalFields (target ∷ []) ++ floatFields (duration ∷ [])
+    wideText start ++ decimalFields (target ∷ []) ++ floatFields (duration ∷ [])
 
 -- `player`, clock, speed, state, transition
 unfoldable pub playerLine : Float → Float → ℕ → Transition → List ℕ
 playerLine clock speed state transition =
     (112 ∷ 108 ∷ 97 ∷ 121 ∷ 101 ∷ 114 ∷ []) ++
-    wideField clock ++ wideField speed ++ decimalFields (state ∷ []) ++ transitionFields transition ++ lineFeed ∷ []
+    wideText clock ++ wideText speed ++ decimalFields (state ∷ []) ++ transitionFields transition ++ lineFeed ∷ []
 
 abbrev pub playerText : Player → List ℕ
 playerText p = playerLine (p .clock) (p .speed) (p .state) (p .transition)

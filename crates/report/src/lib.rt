@@ -25,7 +25,7 @@ ghost use Rattle.model.specs.Plan.{maxClipNodes};
 ghost use Rattle.model.specs.Clips.{instanceAt};
 ghost use Rattle.printing.specs.Written.{WrittenUpTo, WrittenExactly};
 ghost use Rattle.printing.specs.Sizes.{refusalSize};
-ghost use Rattle.report.specs.Report.{wideField, answerLine, transitionFields, playerText};
+ghost use Rattle.report.specs.Report.{wideText, answerLine, transitionFields, playerText};
 ghost use Rattle.report.specs.Report.{parametersLine, instanceLine, instanceLines};
 ghost use Rattle.report.specs.Sizes.{wideSize, transitionSize, playerSize};
 ghost use Rattle.report.specs.Sizes.{parametersSize, instanceSize, instancesSize};
@@ -59,7 +59,7 @@ fn wide_bits(x: f64) -> usize
 // A comma, and the bits of x.
 fn put_wide(out: &mut [u8], at: usize, x: f64) -> usize
     requires { ⌜ at + wideSize ≤ length (now out) ⌝ }
-    ensures { λ r. ⌜ WrittenExactly wideSize (now (out .entry)) at (wideField x) (now (out .exit)) r ⌝ }
+    ensures { λ r. ⌜ WrittenExactly wideSize (now (out .entry)) at (wideText x) (now (out .exit)) r ⌝ }
 {
     put_field(out, at, 16, WIDE_DIGITS, wide_bits(x))
 }

@@ -15,7 +15,7 @@ use Rattle.model.specs.Laws.Text.{EachLimit}
 use Rattle.round_trip.specs.Laws.Lines.{most-part, any-within, line-read}
 use Rattle.round_trip.specs.Laws.Parts.{part-one, spans-one, spans-none}
 use Rattle.round_trip.specs.Laws.Rows.{WithinAt}
-use Rattle.round_trip.specs.Laws.Shape.{numbersAt, goNumbersAt, poseAt, joint-row, clip-row, node-row, go-row, pose-row, joints, clips, counts, nodes, transitions, states, poses, state-text, figure-text, joints-same, clips-same, states-same, samples-same}
+use Rattle.round_trip.specs.Laws.Shape.{numbersAt, goNumbersAt, posePlace, joint-row, clip-row, node-row, go-row, pose-row, joints, clips, counts, nodes, transitions, states, poses, state-text, figure-text, joints-same, clips-same, states-same, samples-same}
 use Rattle.round_trip.specs.Laws.Reads.{Got, got-none, got-prefixed, got-then, got-moved, got-times, got-line, got-row}
 
 module _ (plan bits : List ℕ) (ok : Counted plan bits) where
@@ -77,4 +77,4 @@ module _ (plan bits : List ℕ) (ok : Counted plan bits) where
       (got-then plan bits _ samples
       (got-then plan bits _ (got-states after-states)
       (rw (samples-same plan (samples .words) (samples .in-plan .same) count)
-      (got-then plan bits _ (got-row plan bits (pose-row plan) (λ m _. any-fits Pose (planEnd plan) (poseAt plan m) tt) []) (got-none plan bits [] (planEnd plan) (numbersLength plan)))))))))
+      (got-then plan bits _ (got-row plan bits (pose-row plan) (λ m _. any-fits Pose (planEnd plan) (posePlace plan m) tt) []) (got-none plan bits [] (planEnd plan) (numbersLength plan)))))))))

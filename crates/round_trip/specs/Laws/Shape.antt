@@ -22,8 +22,8 @@ module _ (plan : List ℕ) where
   abbrev pub goNumbersAt : ℕ → ℕ → ℕ
   goNumbersAt s t = numberAt plan (Value s t)
 
-  abbrev pub poseAt : ℕ → ℕ
-  poseAt m = posesAt plan + 8 * m
+  abbrev pub posePlace : ℕ → ℕ
+  posePlace m = posesAt plan + 8 * m
 
   abbrev pub allPoses : ℕ
   allPoses = samplesBefore plan (clipCount plan) * jointCount plan
@@ -48,7 +48,7 @@ module _ (plan : List ℕ) where
   unfolding forms wordsIn bitsIn conditionParameterAt transitionCountAt afterTransitions stateAt transitionCount numberAt transitionsBefore total
   go-row s = omega arith
 
-  pub pose-row : Row Pose allPoses (λ m. planEnd plan) poseAt (planEnd plan) (planEnd plan) (posesAt plan) (numbersLength plan)
+  pub pose-row : Row Pose allPoses (λ m. planEnd plan) posePlace (planEnd plan) (planEnd plan) (posesAt plan) (numbersLength plan)
   unfolding forms wordsIn bitsIn numbersLength
   pose-row = omega arith
 
@@ -77,7 +77,7 @@ module _ (plan bits : List ℕ) where
   states = joined (stateCount plan) (stateText plan bits)
 
   abbrev pub poses : List ℕ
-  poses = rowText plan bits Pose (allPoses plan) (λ m. planEnd plan) (poseAt plan)
+  poses = rowText plan bits Pose (allPoses plan) (λ m. planEnd plan) (posePlace plan)
 
   pub state-text : (s : ℕ) → stateText plan bits s ≡ lineText State (counts s) [] ++ (nodes s ++ transitions s)
   unfolding stateText forms wordsIn bitsIn part
