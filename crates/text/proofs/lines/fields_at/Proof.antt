@@ -12,7 +12,7 @@ use Rattle.text.proofs.FieldLaws.{no-line-feed, fields-read}
 use Rattle.text.proofs.lines.fields_at.Statement.{statement}
 use Rattle.text.proofs.lines.fields_at.Tie as tie
 
--- without a line feed, whatever is done before the return
+-- where the line feed is missing the values are to be as they were; `search` finds this from the return, whatever stands before that
 missing : (c : tie.Then1) → let a = c .before .before .before .before .before .args in
     LineFound (a .text .now) (fieldsIn (forms (a .kind)) (drop (a .at) (a .text .now))) Malformed (a .values .now) (a .values .now)
 missing c =
