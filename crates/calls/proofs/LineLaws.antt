@@ -19,9 +19,10 @@ use Rattle.model.specs.Text.{front, comma, lineFeed, digitCount, numeral, maxWo
 use Rattle.model.specs.Laws.Text.{field-law}
 use Rattle.fields.specs.declared.Field.{Field}
 use Rattle.fields.specs.declared.Field.the-variants.{Value, Nothing}
-use Rattle.fields.specs.Found.{found}
-use Rattle.fields.specs.Wide.{wideBitsIn}
+use Rattle.fields.specs.Found.{found, fieldAt}
+use Rattle.fields.specs.Wide.{wideBitsIn, wideBitsAt}
 use Rattle.fields.proofs.Bytes.{there, front-at}
+use Rattle.fields.proofs.Laws.{field-found, wide-found}
 use Rattle.calls.specs.declared.Call.{Call}
 use Rattle.calls.specs.declared.Call.the-variants.{Malformed, Update, Speed, Set, Frame}
 use Rattle.calls.specs.declared.CallAt.{CallAt}
@@ -62,16 +63,17 @@ no-wide-bits : wideBitsIn [] ≡ none
 unfolding wideBitsIn digitCount
 no-wide-bits = refl
 
-pub wide-read : (text : List ℕ) (at place : ℕ) → drop place text ≡ behind (drop at text) → wideBitsIn (drop place text) ≡ wideField (drop at text)
-wide-read = comma-read wideBitsIn no-wide-bits
+pub wide-read : (text : List ℕ) (at place : ℕ) {r : Field} → drop place text ≡ behind (drop at text) → r ≡ wideBitsAt text place → found text r ≡ wideField (drop at text)
+wide-read text at place b e = wide-found text place e ∙ comma-read wideBitsIn no-wide-bits text at place b
 
 nothing-read : (form : FieldForm) → fieldIn form [] ≡ none
 unfolding fieldIn isField digitCount
 nothing-read (Decimal limit) = refl
 nothing-read Bits = refl
 
-pub field-read : (form : FieldForm) (text : List ℕ) (at place : ℕ) → drop place text ≡ behind (drop at text) → fieldIn form (drop place text) ≡ behindComma (fieldIn form) (drop at text)
-field-read form = comma-read (fieldIn form) (nothing-read form)
+pub field-read : (form : FieldForm) (text : List ℕ) (at place : ℕ) {r : Field} → drop place text ≡ behind (drop at text) → r ≡ fieldAt form text place
+    → found text r ≡ behindComma (fieldIn form) (drop at text)
+field-read form text at place b e = field-found form text place e ∙ comma-read (fieldIn form) (nothing-read form) text at place b
 
 -- ---- lines
 

@@ -251,7 +251,10 @@ fn first_malformed(text: &[u8], lines: usize) -> usize
 }
 
 pub fn check_calls(text: &[u8]) -> ListChecked
-    ensures { λ r. ⌜ (r .lines ≡ lineCount (now (text .entry))) × (r .malformed ≡ firstMalformed (callList (now (text .entry)))) ⌝ }
+    ensures { λ r. ⌜
+        (r .lines ≡ lineCount (now (text .entry)))
+        × (r .malformed ≡ firstMalformed (callList (now (text .entry))))
+        ⌝ }
 {
     let lines = line_count(text);
     ListChecked {

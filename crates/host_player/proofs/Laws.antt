@@ -26,6 +26,10 @@ use Rattle.host_player.specs.HostParts.{hostOf, UnpackedParts, PackedPar
 
 -- ---- the flat player after a call
 
+-- a call on the player between `unpack` and `pack`
+pub between : (f : HostPlayer) {p q : Player} {r : HostPlayer} (call : Player → Player) → p ≡ unpacked f → q ≡ call p → r ≡ packed q → r ≡ packed (call (unpacked f))
+between f call e h k = k ∙ ap packed (h ∙ ap call e)
+
 kept : {X : Type 0} (v : Verdict) (new old : X) → (v ≡ accepted → ⊥) → unlessRefused v new old ≡ old
 unfolding unlessRefused
 kept accepted new old h = absurd (h refl)

@@ -6,7 +6,6 @@ use Rattle.model.specs.declared.FieldForm.the-variants.{Decimal}
 use Rattle.model.specs.Text.{maxWord}
 use Rattle.model.specs.Run as Run
 use Rattle.fields.specs.Found.{found}
-use Rattle.fields.proofs.Laws.{field-found, wide-found}
 use Rattle.calls.specs.CallText.{line, wideField, decimalField, frameLine}
 use Rattle.calls.specs.Read.{lineOf}
 use Rattle.calls.proofs.LineLaws.{wide-read, field-read, none-read, same-read, without, with-value, ends}
@@ -15,17 +14,12 @@ use Rattle.calls.proofs.frame_line.Tie as tie
 
 -- the field behind the name
 ext : (c : tie.After-read-wide-bits) → let a = c .before .before .before .args in found (a .text .now) (c .read-wide-bits .result) ≡ wideField (drop (a .at) (a .text .now))
-ext c =
-    let a = c .before .before .before .args in
-    wide-found _ _ (c .read-wide-bits .ensures) ∙ wide-read (a .text .now) (a .at) (c .before .behind-comma .result) (c .before .behind-comma .ensures)
+ext c = wide-read _ (c .before .before .before .args .at) _ (c .before .behind-comma .ensures) (c .read-wide-bits .ensures)
 
 -- and the next
 count : (c : tie.After-read-field) → let x = c .before .before .before in let a = x .before .before .before .before .before .args in
     found (a .text .now) (c .read-field .result) ≡ decimalField (drop (x .ext .given .0 .1 .0) (a .text .now))
-count c =
-    let x = c .before .before .before in
-    let a = x .before .before .before .before .before .args in
-    field-found (Decimal maxWord) _ _ (c .read-field .ensures) ∙ field-read (Decimal maxWord) (a .text .now) (x .ext .given .0 .1 .0) (c .before .behind-comma2 .result) (c .before .behind-comma2 .ensures)
+count c = field-read (Decimal maxWord) _ (c .before .before .before .ext .given .0 .1 .0) _ (c .before .behind-comma2 .ensures) (c .read-field .ensures)
 
 returns : tie.Need-returns
 unfolding frameLine

@@ -7,7 +7,6 @@ use Rattle.model.specs.declared.FieldForm.the-variants.{Decimal, Bits}
 use Rattle.model.specs.Text.{maxWord}
 use Rattle.model.specs.Run as Run
 use Rattle.fields.specs.Found.{found}
-use Rattle.fields.proofs.Laws.{field-found}
 use Rattle.calls.specs.CallText.{line, decimalField, bitsField, setLine}
 use Rattle.calls.specs.Read.{lineOf}
 use Rattle.calls.proofs.LineLaws.{field-read, none-read, same-read, without, with-value, ends, bits-fit}
@@ -16,17 +15,12 @@ use Rattle.calls.proofs.set_line.Tie as tie
 
 -- the field behind the name
 number : (c : tie.After-read-field) → let a = c .before .before .before .args in found (a .text .now) (c .read-field .result) ≡ decimalField (drop (a .at) (a .text .now))
-number c =
-    let a = c .before .before .before .args in
-    field-found (Decimal maxWord) _ _ (c .read-field .ensures) ∙ field-read (Decimal maxWord) (a .text .now) (a .at) (c .before .behind-comma .result) (c .before .behind-comma .ensures)
+number c = field-read (Decimal maxWord) _ (c .before .before .before .args .at) _ (c .before .behind-comma .ensures) (c .read-field .ensures)
 
 -- and the next
 bits : (c : tie.After-read-field2) → let n = c .before .before .before in let a = n .before .before .before .before .before .args in
     found (a .text .now) (c .read-field2 .result) ≡ bitsField (drop (n .number .given .0 .1 .0) (a .text .now))
-bits c =
-    let n = c .before .before .before in
-    let a = n .before .before .before .before .before .args in
-    field-found Bits _ _ (c .read-field2 .ensures) ∙ field-read Bits (a .text .now) (n .number .given .0 .1 .0) (c .before .behind-comma2 .result) (c .before .behind-comma2 .ensures)
+bits c = field-read Bits _ (c .before .before .before .number .given .0 .1 .0) _ (c .before .behind-comma2 .ensures) (c .read-field2 .ensures)
 
 returns : tie.Need-returns
 unfolding setLine

@@ -3,7 +3,6 @@ use borrow.Author.Needs.{needs}
 use mathlib.Core.Path.{_≡_, ap, _∙_}
 use lib.ListN.{drop}
 use Rattle.fields.specs.Found.{found}
-use Rattle.fields.proofs.Laws.{wide-found}
 use Rattle.calls.specs.CallText.{line, wideField, timeLine}
 use Rattle.calls.specs.Read.{lineOf, timeOf, isMalformed}
 use Rattle.calls.proofs.LineLaws.{wide-read, none-read, same-read, timed-well, without, with-value, ends, timed-is}
@@ -12,9 +11,7 @@ use Rattle.calls.proofs.time_line.Tie as tie
 
 -- the field behind the name
 time : (c : tie.After-read-wide-bits) → let a = c .before .before .before .args in found (a .text .now) (c .read-wide-bits .result) ≡ wideField (drop (a .at) (a .text .now))
-time c =
-    let a = c .before .before .before .args in
-    wide-found _ _ (c .read-wide-bits .ensures) ∙ wide-read (a .text .now) (a .at) (c .before .behind-comma .result) (c .before .behind-comma .ensures)
+time c = wide-read _ (c .before .before .before .args .at) _ (c .before .behind-comma .ensures) (c .read-wide-bits .ensures)
 
 returns : tie.Need-returns
 unfolding timeLine
