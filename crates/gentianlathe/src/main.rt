@@ -1,5 +1,5 @@
-// The program: reads a figure's text from standard input, starts it, and prints each joint's matrix of one frame, or the refusal.
-// `program::answer` does the work, on slices; here are only the reading and the writing.
+// The program: reads a figure's text from standard input, starts it, and prints each joint's matrix of one frame, or the
+// refusal. `program::answer` does the work, on slices; here are only the reading and the writing.
 use input::read_input;
 use libc::STDERR_FILENO;
 use libc::STDIN_FILENO;

@@ -130,7 +130,8 @@ pub fn put_floats(out: &mut [u8], at: usize, floats: &[f32]) -> usize
 pub fn put_refusal(out: &mut [u8], at: usize, refusal: Refusal) -> usize
     requires { ⌜ at + refusalSize ≤ length (now out) ⌝ }
     ensures { λ r. ⌜
-        WrittenUpTo refusalSize (now (out .entry)) at (refusedLine (refusal .number) (refusal .place)) (now (out .exit)) r
+        WrittenUpTo refusalSize
+        (now (out .entry)) at (refusedLine (refusal .number) (refusal .place)) (now (out .exit)) r
         ⌝ }
 {
     let behind_name = put_bytes(out, at, b"refused");
@@ -168,7 +169,8 @@ pub fn put_joints(out: &mut [u8], at: usize, count: usize, output: &[f32]) -> us
         × (outputAt count ≤ length (now output))
         ⌝ }
     ensures { λ r. ⌜
-        WrittenUpTo (jointSize * count) (now (out .entry)) at (jointLines count (now (output .entry))) (now (out .exit)) r
+        WrittenUpTo (jointSize * count)
+        (now (out .entry)) at (jointLines count (now (output .entry))) (now (out .exit)) r
         ⌝ }
 {
     let mut behind = at;

@@ -1,4 +1,5 @@
-// The program `replay FIGURE CALLS`: reads a figure's text and a list of calls from two files, and prints what each call shows.
+// The program `replay FIGURE CALLS`: reads a figure's text and a list of calls from two files, and prints what each call
+// shows.
 use calls::MAX_LIST;
 use input::Input;
 use input::read_input;

@@ -14,7 +14,8 @@ use Rattle.model.specs.declared.FieldForm.the-variants.{Decimal, Bits}
 use Rattle.model.specs.declared.FrameKind.{FrameKind}
 use Rattle.model.specs.declared.FrameKind.the-variants.{Ordinary, Page}
 use Rattle.model.specs.Run.{Call, Update, Speed}
-use Rattle.model.specs.Text.{front, comma, lineFeed, maxWord, baseOf, digitCount, isField, Field, none, field, fieldIn, begins}
+use Rattle.model.specs.Text.{front, comma, lineFeed, maxWord, baseOf, digitCount, isField}
+use Rattle.model.specs.Text.{Field, none, field, fieldIn, begins}
 use Rattle.fields.specs.Wide.{wideBitsIn}
 use Rattle.calls.specs.CallText.{CallLine, malformed, line, behindComma, behindField, wideField, bitsField, decimalField}
 use Rattle.calls.specs.CallText.{updateName, speedName, setName, frameName, pageName}

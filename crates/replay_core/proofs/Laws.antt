@@ -37,7 +37,8 @@ use Rattle.report.specs.Report.{below, matrixLines, answerLine, playerText, obs
 use Rattle.report.proofs.Laws.{no-matrix-lines, matrix-lines-below}
 use Rattle.replay_core.specs.declared.CallDone.{CallDone}
 use Rattle.replay_core.specs.Replay.{startText}
-use Rattle.replay_core.specs.Replaying.{NothingShown, callText, allShown, Done, lineAfter, lineReport, Called, Beginning}
+use Rattle.replay_core.specs.Replaying.{NothingShown, callText, allShown, Done}
+use Rattle.replay_core.specs.Replaying.{lineAfter, lineReport, Called, Beginning}
 
 -- ---- room for a frame
 
@@ -55,7 +56,7 @@ unfolding frameVerdict
 frame-room plan numbers p room n (inl e) = rw e
 frame-room plan numbers p room n (inr h) =
     room-same (check plan (length numbers)) _ _ (outputAt (jointCount plan)) room n
-    (λ e. let few : jointCount plan ≤ maxJoints = few-joints plan (length numbers) e in (omega (arith, h), omega (arith, h)))
+    (λ e. let few = few-joints plan (length numbers) e in (omega arith, omega arith))
 
 -- ---- one call
 
@@ -115,7 +116,9 @@ module _ (plan : List ℕ) (numbers : List Float) (p : Player) (kind : FrameKind
           ≡ matrixLines (map (λ j. floats (getD matrices j identityMatrix)) (below (jointCount plan)))
       unfolding unlessRefused written
       lines =
-          let o : new ≡ flat matrices ++ drop (outputAt (jointCount plan)) old = rw frame-accepted at (framed .output) in
+          let o : new ≡ flat matrices ++ drop (outputAt (jointCount plan)) old =
+          rw frame-accepted at (framed .output)
+          in
           let long = frame-length plan numbers p ext kind in
           rw (matrix-lines-below, o, append-assoc)
           (joined-same (jointCount plan) _ _ (λ j h. ap (jointLine j) (matrix-at matrices _ j (omega arith))))
@@ -134,13 +137,14 @@ module _ (plan : List ℕ) (numbers : List Float) (p : Player) (kind : FrameKind
 -- ---- the call of a line
 
 module _ (plan : List ℕ) (numbers : List Float) (p : Player) (floats : List Float) (d : CallDone) where
-  call-text : (c : Call) (rest : List ℕ) → Done plan numbers p c floats d → callText d floats ≡ lineReport plan numbers p (line c rest)
+  call-text : (c : Call) (rest : List ℕ) → Done plan numbers p c floats d
+      → callText d floats ≡ lineReport plan numbers p (line c rest)
   unfolding callText lineReport observationText observation
   call-text c rest h = rw (h .answer, h .player, h .shown)
 
   module _ (call : Read.Call) where
-    pub called : (k : Read.Call) (c : Call) → call ≡ k → ((s : List ℕ) → lineOf k s ≡ line c s) → Done plan numbers p c floats d
-        → Called plan numbers p call floats d
+    pub called : (k : Read.Call) (c : Call) → call ≡ k → ((s : List ℕ) → lineOf k s ≡ line c s)
+        → Done plan numbers p c floats d → Called plan numbers p call floats d
     unfolding lineAfter
     called k c e is h =
         record {

@@ -65,12 +65,14 @@ module _ (plan : List ℕ) (numbers : List Float) (text : List ℕ) where
       pub shown : List ℕ
       pub put : Written before 0 shown out end
       pub inside : end ≤ length before
-      pub same : performed plan numbers text (length before) lines at p [] ≡ performed plan numbers text (length before) left here q shown
+      pub same : performed plan numbers text (length before) lines at p []
+          ≡ performed plan numbers text (length before) left here q shown
 
     pub nothing-performed : Performed before at lines p 0
     nothing-performed = record { shown = []; put = nothing-written _ _; inside = omega arith; same = refl }
 
-    pub next-performed : {out after : List ℕ} {floats : List Float} {here left end behind : ℕ} {q : Player} {r : CallAt} {d : CallDone}
+    pub next-performed : {out after : List ℕ} {floats : List Float} {here left end behind : ℕ} {q : Player}
+        {r : CallAt} {d : CallDone}
         → Performed out here left q end → 0 < left → end + maxReport ≤ length before → r ≡ callAt text here
         → lineRead text r ≡ callIn (drop here text) → Called plan numbers q (r .call) floats d
         → Written out end (callText d floats) after behind → behind ≤ end + maxReport
@@ -81,11 +83,12 @@ module _ (plan : List ℕ) (numbers : List Float) (text : List ℕ) where
         let shown = called .text rest ∙ ap (lineReport plan numbers q) read in
         let moved = called .player rest ∙ ap (lineAfter plan numbers q) read in
         let end = ap (λ (x : CallAt). x .end) there in
+        let on = goes-on (length before) _ here q (so-far .shown) some (omega (arith, so-far .put .ended)) in
         record {
           shown = so-far .shown ++ lineReport plan numbers q (callIn (drop here text));
           put = rw shown at (more-written (so-far .put) put);
           inside = omega arith;
-          same = so-far .same ∙ rw (moved, end) (goes-on (length before) _ here q (so-far .shown) some (omega (arith, so-far .put .ended)));
+          same = so-far .same ∙ rw (moved, end) on;
         }
 
     pub performing : {out : List ℕ} (r : Progress) → Performed out (r .at) (r .lines) (r .player) (r .length)
@@ -116,12 +119,14 @@ module _ (plan : List ℕ) (numbers : List Float) (text : List ℕ) where
       let on = goes-on (length before) lines at p [] some room in
       let e = ap (λ (x : Progress). x .lines) (done .progress) ∙ ap (λ (x : Performance). x .lines) on in
       let here = callIn (drop at text) in
-      omega
-      (arith, no-more (length before) (lines - 1) (callAt text at .end) (lineAfter plan numbers p here) (lineReport plan numbers p here))
+      let q = lineAfter plan numbers p here in
+      omega (arith, no-more (length before) (lines - 1) (callAt text at .end) q (lineReport plan numbers p here))
 
   -- the first of some calls, by its line
-  module _ (p : Player) {cs later : List Call} {c : Call} {l : CallLine} {behind : List ℕ} (split : cs ≡ c ∷ later) (here : l ≡ line c behind) where
-    report-next : reportFrom plan numbers p cs ≡ lineReport plan numbers p l ++ reportFrom plan numbers (lineAfter plan numbers p l) later
+  module _ (p : Player) {cs later : List Call} {c : Call} {l : CallLine} {behind : List ℕ}
+      (split : cs ≡ c ∷ later) (here : l ≡ line c behind) where
+    report-next : reportFrom plan numbers p cs
+        ≡ lineReport plan numbers p l ++ reportFrom plan numbers (lineAfter plan numbers p l) later
     unfolding lineReport lineAfter reportFrom texts runFrom
     report-next = rw (split, here)
 
@@ -129,7 +134,7 @@ module _ (plan : List ℕ) (numbers : List Float) (text : List ℕ) where
     unfolding lineAfter playerAfter
     player-next = rw (split, here)
 
-  -- of a list without a malformed line: the calls that are left are read from the place on, and show what is not shown yet
+  -- of a list without a malformed line: the calls that are left are read from the place on, and show the rest
   pub record Rest (p : Player) (cs : List Call) (shown : List ℕ) (all : Performance) : Type 0 where
     pub left : List Call
     pub read : readCalls (all .lines) (drop (all .at) text) ≡ calls left
@@ -156,7 +161,7 @@ module _ (plan : List ℕ) (numbers : List Float) (text : List ℕ) where
       in
       go (ltb room (length shown + maxReport)) more
     where
-      go : (t : Bool) → Rest p cs shown (next room n at p shown)
-          → Rest p cs shown (cond t (record { player = p; at = at; lines = suc n; shown = shown }) (next room n at p shown))
+      go : (t : Bool) → let more = next room n at p shown in Rest p cs shown more
+          → Rest p cs shown (cond t (record { player = p; at = at; lines = suc n; shown = shown }) more)
       go true more = record { left = cs; read = e; report = refl; player = refl }
       go false more = more

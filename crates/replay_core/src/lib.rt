@@ -180,7 +180,9 @@ fn put_call(out: &mut [u8], at: usize, call: CallDone, floats: &[f32]) -> usize
         × (call .joints ≤ maxJoints)
         × (length (now floats) ≡ maxOutput)
         ⌝ }
-    ensures { λ r. ⌜ WrittenUpTo maxReport (now (out .entry)) at (callText call (now (floats .entry))) (now (out .exit)) r ⌝ }
+    ensures { λ r. ⌜
+        WrittenUpTo maxReport (now (out .entry)) at (callText call (now (floats .entry))) (now (out .exit)) r
+        ⌝ }
 {
     let answer = call.answer;
     let player = call.player;
@@ -217,7 +219,8 @@ pub fn perform(
     out: &mut [u8],
 ) -> Progress
     ensures { λ r. ⌜
-        Performing (performed (now (plan .entry)) (now (numbers .entry)) (now (text .entry)) (length (now (out .entry))) lines at player [])
+        Performing
+        (performed (now (plan .entry)) (now (numbers .entry)) (now (text .entry)) (length (now (out .entry))) lines at player [])
         (now (out .entry)) (now (out .exit)) r
         ⌝ }
 {

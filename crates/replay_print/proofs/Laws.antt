@@ -15,10 +15,12 @@ use Rattle.model.specs.Promises.{TextRead}
 
 -- 12 is for those that do not fit
 both-fit : (w n words numbers planRoom numbersRoom : ℕ)
-    → accepted words numbers ≡ cond (leb w planRoom && leb n numbersRoom) (accepted w n) (refused 12 0 0) → (words ≤ planRoom) × (numbers ≤ numbersRoom)
+    → accepted words numbers ≡ cond (leb w planRoom && leb n numbersRoom) (accepted w n) (refused 12 0 0)
+    → (words ≤ planRoom) × (numbers ≤ numbersRoom)
 both-fit w n words numbers planRoom numbersRoom = go (leb w planRoom) (leb n numbersRoom) refl refl
   where
-    go : (a b : Bool) → leb w planRoom ≡ a → leb n numbersRoom ≡ b → accepted words numbers ≡ cond (a && b) (accepted w n) (refused 12 0 0)
+    go : (a b : Bool) → leb w planRoom ≡ a → leb n numbersRoom ≡ b
+        → accepted words numbers ≡ cond (a && b) (accepted w n) (refused 12 0 0)
         → (words ≤ planRoom) × (numbers ≤ numbersRoom)
     go true true ea eb v =
         let ew : words ≡ w = cc in
@@ -31,12 +33,15 @@ both-fit w n words numbers planRoom numbersRoom = go (leb w planRoom) (leb n num
         let z : _≡_ {A = ℕ} 0 1 = cc in
         absurd (omega arith)
 
-pub accepted-fits : (s planOld planNew : List ℕ) (numbersOld numbersNew : List Float) (r : TextAnswer) → TextRead s planOld planNew numbersOld numbersNew r
-    → (words numbers : ℕ) → r ≡ text-answer.Accepted words numbers → (words ≤ length planOld) × (numbers ≤ length numbersOld)
+pub accepted-fits : (s planOld planNew : List ℕ) (numbersOld numbersNew : List Float) (r : TextAnswer)
+    → TextRead s planOld planNew numbersOld numbersNew r → (words numbers : ℕ) → r ≡ text-answer.Accepted words numbers
+    → (words ≤ length planOld) × (numbers ≤ length numbersOld)
 unfolding textValues textVerdict
-accepted-fits s planOld planNew numbersOld numbersNew r done words numbers e = go (readFigure s) (rw e at (done .answer))
+accepted-fits s planOld planNew numbersOld numbersNew r done words numbers e =
+    go (readFigure s) (rw e at (done .answer))
   where
-    go : (x : Reading) → accepted words numbers ≡ textVerdict x (length planOld) (length numbersOld) → (words ≤ length planOld) × (numbers ≤ length numbersOld)
+    go : (x : Reading) → accepted words numbers ≡ textVerdict x (length planOld) (length numbersOld)
+        → (words ≤ length planOld) × (numbers ≤ length numbersOld)
     go (bad n) v =
         let z : _≡_ {A = ℕ} 0 1 = cc in
         absurd (omega arith)

@@ -1,4 +1,5 @@
-// Prints what replaying a list of calls on a figure shows. The work is `replay_core`'s, on slices; here it is written to standard output, part by part.
+// Prints what replaying a list of calls on a figure shows. The work is `replay_core`'s, on slices; here it is written to
+// standard output, part by part.
 use calls::check_calls;
 use layout::MAX_PLAN;
 use libc::STDOUT_FILENO;
@@ -27,7 +28,8 @@ fn write_front(bytes: &[u8], size: usize) -> bool
     io::write_all(STDOUT_FILENO, &bytes[..size])
 }
 
-// The same for an array that was lent to a callee: of a parameter a proof knows the length by its type, of a lent array it does not.
+// The same for an array that was lent to a callee: of a parameter a proof knows the length by its type, of a lent array
+// it does not.
 fn write_array_front(bytes: &[u8; MAX_REPORT], size: usize) -> bool
     requires { ⌜ size ≤ length (now bytes) ⌝ }
 {
@@ -84,7 +86,8 @@ fn print_list(plan: &[u16], numbers: &[f32], calls: &[u8]) -> bool {
     print_calls(plan, numbers, calls, checked.lines, player)
 }
 
-// The slices hold the figure of any text that is not too long, as those of the program do. False where standard output cannot be written.
+// The slices hold the figure of any text that is not too long, as those of the program do. False where standard output
+// cannot be written.
 pub fn print_replay(figure: &[u8], calls: &[u8]) -> bool {
     if figure.len() > MAX_TEXT {
         return print_refusal(Refusal {

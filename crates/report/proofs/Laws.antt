@@ -16,7 +16,8 @@ pub instance-written : {xs a b c d e f : List ℕ} {at o p q r s t : ℕ} (n : �
     → Written xs at (105 ∷ 110 ∷ 115 ∷ 116 ∷ 97 ∷ 110 ∷ 99 ∷ 101 ∷ []) a o
     → Written a o (decimalFields (n ∷ [])) b p
     → Written b p (floatFields (i .start ∷ [])) c q → Written c q (floatFields (i .rate ∷ [])) d r
-    → Written d r (floatFields (i .offset ∷ [])) e s → Written e s (lineFeed ∷ []) f t → Written xs at (instanceLine n i) f t
+    → Written d r (floatFields (i .offset ∷ [])) e s → Written e s (lineFeed ∷ []) f t
+    → Written xs at (instanceLine n i) f t
 unfolding instanceLine
 instance-written n i w d x y z l =
     let two = floats-written (i .start ∷ []) (i .rate ∷ []) x y in

@@ -66,7 +66,9 @@ fn put_wide(out: &mut [u8], at: usize, x: f64) -> usize
 
 fn put_transition(out: &mut [u8], at: usize, transition: Transition) -> usize
     requires { ⌜ at + transitionSize ≤ length (now out) ⌝ }
-    ensures { λ r. ⌜ WrittenUpTo transitionSize (now (out .entry)) at (transitionFields transition) (now (out .exit)) r ⌝ }
+    ensures { λ r. ⌜
+        WrittenUpTo transitionSize (now (out .entry)) at (transitionFields transition) (now (out .exit)) r
+        ⌝ }
 {
     match transition {
         Transition::Idle => put_bytes(out, at, b",idle"),
@@ -101,7 +103,8 @@ pub fn put_player(out: &mut [u8], at: usize, player: Player) -> usize
 pub fn put_parameters(out: &mut [u8], at: usize, parameters: &[f32; MAX_PARAMETERS]) -> usize
     requires { ⌜ at + parametersSize ≤ length (now out) ⌝ }
     ensures { λ r. ⌜
-        WrittenExactly parametersSize (now (out .entry)) at (parametersLine (now (parameters .entry))) (now (out .exit)) r
+        WrittenExactly parametersSize
+        (now (out .entry)) at (parametersLine (now (parameters .entry))) (now (out .exit)) r
         ⌝ }
 {
     let behind_name = put_bytes(out, at, b"parameters");

@@ -1,4 +1,4 @@
--- `printing::places` meets its contract: each turn takes one digit off and counts it, and 20 are enough. Assumes nothing.
+-- `printing::places` meets its contract: each turn takes one digit off; 20 are enough. Assumes nothing.
 use Prim.Native.Nat.{suc, _+_, _-_, _^_, _≤_, _<_}
 use mathlib.Core.Path.{_≡_}
 use native.Mathlib.Omega.{arith}

@@ -17,7 +17,8 @@ array-share-prefix-figure : tie.Need-array-share-prefix-figure
 array-share-prefix-figure c = figure-inside (c .before .before .before .before .before .before)
 
 slice-aggregate-replay : tie.Need-slice-aggregate-replay
-slice-aggregate-replay c = sym (length-take-le _ _ (figure-inside (c .before .before .before .before .before .before .before)))
+slice-aggregate-replay c =
+    sym (length-take-le _ _ (figure-inside (c .before .before .before .before .before .before .before)))
 
 array-share-prefix-calls : tie.Need-array-share-prefix-calls
 array-share-prefix-calls c = calls-inside (c .before .before .before)

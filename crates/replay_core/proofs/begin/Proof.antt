@@ -8,7 +8,8 @@ use Rattle.replay_core.proofs.begin.Tie as tie
 returns : tie.Need-returns
 returns c =
     let a = c .before .before in
-    begun _ _ _ (a .before .before .before .start .ensures) (a .put-answer .ensures .0) (c .put-player .ensures .0) (omega arith)
+    let started = a .before .before .before .start .ensures in
+    begun _ _ _ started (a .put-answer .ensures .0) (c .put-player .ensures .0) (omega arith)
 
 pub begin-spec : {M : Type 1} → statement M
 begin-spec = tie.close (tie.spec (search needs) (search needs) (search needs) returns)

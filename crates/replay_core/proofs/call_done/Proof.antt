@@ -18,33 +18,34 @@ unfolding lineOf values callVerdict changed after chosenFloats unlessRefused
 returns-2 c =
     let u = c .before in
     let k = Run.Update _ in
-    (called _ _ _ _ _ _ _ k (u .before .before .call .given .1) (λ s. refl) (nothing-done _ _ _ _ k refl (u .update .ensures .player) refl (c .accepted2 .ensures)), search needs)
+    let done = nothing-done _ _ _ _ k refl (u .update .ensures .player) refl (c .accepted2 .ensures) in
+    (called _ _ _ _ _ _ _ k (u .before .before .call .given .1) (λ s. refl) done, search needs)
 
 returns-3 : tie.Need-returns-3
 unfolding lineOf values callVerdict changed after chosenFloats unlessRefused
 returns-3 c =
     let u = c .before in
     let k = Run.Speed _ in
-    (called _ _ _ _ _ _ _ k (u .before .before .call2 .given .1) (λ s. refl) (nothing-done _ _ _ _ k refl (u .speed .ensures .player) refl (c .accepted3 .ensures)), search needs)
+    let done = nothing-done _ _ _ _ k refl (u .speed .ensures .player) refl (c .accepted3 .ensures) in
+    (called _ _ _ _ _ _ _ k (u .before .before .call2 .given .1) (λ s. refl) done, search needs)
 
 returns-4 : tie.Need-returns-4
 unfolding lineOf callVerdict changed after chosenFloats
 returns-4 c =
     let u = c .before in
-    let k = Run.Set _ _ in (
-      called _ _ _ _ _ _ _ k (u .before .before .call3 .given .1) (λ s. refl)
-          (nothing-done _ _ _ _ k (u .set .ensures .answer) (u .set .ensures .player) (unless-same _ []) (c .done .ensures)),
-      search needs,
-    )
+    let k = Run.Set _ _ in
+    let set = u .set .ensures in
+    let done = nothing-done _ _ _ _ k (set .answer) (set .player) (unless-same _ []) (c .done .ensures) in
+    (called _ _ _ _ _ _ _ k (u .before .before .call3 .given .1) (λ s. refl) done, search needs)
 
 returns-5 : tie.Need-returns-5
 unfolding lineOf
 returns-5 c =
     let f = c .before .before in
-    let t = f .before .before .before .call4 .given in (
-      called _ _ _ _ _ _ _ (Run.Frame (t .0 .0) (t .0 .1 .0) (t .0 .1 .1 .0)) (t .1) (λ s. refl) (f .frame-done .ensures .0),
-      f .frame-done .ensures .1,
-    )
+    let t = f .before .before .before .call4 .given in
+    let k = Run.Frame (t .0 .0) (t .0 .1 .0) (t .0 .1 .1 .0) in
+    let done = f .frame-done .ensures in
+    (called _ _ _ _ _ _ _ k (t .1) (λ s. refl) (done .0), done .1)
 
 pub call-done-spec : {M : Type 1} → statement M
 call-done-spec =

@@ -1,4 +1,5 @@
--- `replay_core::frame_done` meets its contract: the frame is answered as with the whole output, and leaves its matrices in the front of the floats. Assumes nothing.
+-- `replay_core::frame_done` meets its contract: the frame is answered as with the whole output, and leaves its matrices
+-- in the front of the floats. Assumes nothing.
 use Prim.Native.Nat.{_≤_}
 use native.Mathlib.Omega.{arith}
 use mathlib.Core.Path.{_≡_, refl, sym}
@@ -23,13 +24,15 @@ room-as : (c : tie.After-frame-of-arg)
     let asked = c .before .before .before .before .before .args .output-length in
     (n ≡ asked) ⊎ ((n ≡ maxOutput) × (maxOutput ≤ asked))
 room-as c =
-    ⊎-elim (λ w. inl (omega (arith, slice-aggregate-frame-of c))) (λ w. inr (omega (arith, slice-aggregate-frame-of c), omega arith)) (c .before .if1 .came)
+    let long = slice-aggregate-frame-of c in
+    ⊎-elim (λ w. inl (omega arith)) (λ w. inr (omega arith, omega arith)) (c .before .if1 .came)
 
 returns : tie.Need-returns
 returns c =
     let t = c .before in
-    let f = t .before .before .before .before in (
-      frame-refused _ _ _ _ _ _ _ _ (f .frame-of .ensures) _ (frame-room _ _ _ _ _ (room-as (f .before))) _ _ _ (t .enum-told2 .given .1) (c .done .ensures),
+    let f = t .before .before .before .before in
+    let same = frame-room _ _ _ _ _ (room-as (f .before)) in (
+      frame-refused _ _ _ _ _ _ _ _ (f .frame-of .ensures) _ same _ _ _ (t .enum-told2 .given .1) (c .done .ensures),
       search needs,
     )
 
@@ -37,8 +40,9 @@ returns-2 : tie.Need-returns-2
 returns-2 c =
     let t = c .before .before in
     let f = t .before .before .before .before in
-    let e = t .enum-told .given .1 in (
-      frame-done _ _ _ _ _ _ _ _ (f .frame-of .ensures) _ (frame-room _ _ _ _ _ (room-as (f .before))) _ _ e (sym e) refl (c .word .ensures .0),
+    let e = t .enum-told .given .1 in
+    let same = frame-room _ _ _ _ _ (room-as (f .before)) in (
+      frame-done _ _ _ _ _ _ _ _ (f .frame-of .ensures) _ same _ _ e (sym e) refl (c .word .ensures .0),
       search needs,
     )
 

@@ -34,10 +34,11 @@ loop-again c =
     let d = w .before .before .before .before in
     let l = d .before .before .before .before .before .loop in
     let read = d .before .before .call-at .ensures in
+    let called = d .call-done .ensures in
     let put = w .put-call .ensures in (
-      d .call-done .ensures .1,
+      called .1,
       search needs,
-      next-performed _ _ _ _ _ _ _ (l .inv .2) (omega arith) (omega arith) (read .0) (read .1) (d .call-done .ensures .0) (put .0) (put .1),
+      next-performed _ _ _ _ _ _ _ (l .inv .2) (omega arith) (omega arith) (read .0) (read .1) (called .0) (put .0) (put .1),
     )
 
 returns : tie.Need-returns Inv-loop μ-loop

@@ -12,7 +12,8 @@ returns c =
     let j = c .before .before in
     let p = j .before .before .before .before in
     let a = p .before .before .before .before in
-    (more-written (more-written (a .put-answer .ensures .0) (p .put-player .ensures .0)) (j .put-joints .ensures .0), omega arith)
+    let put = more-written (a .put-answer .ensures .0) (p .put-player .ensures .0) in
+    (more-written put (j .put-joints .ensures .0), omega arith)
 
 pub put-call-spec : {M : Type 1} → statement M
 put-call-spec = tie.close (tie.spec (search needs) (search needs) (search needs) (search needs) returns)

@@ -11,7 +11,8 @@ use Rattle.replay_print.proofs.print_replay.Tie as tie
 
 -- in the accepted arm
 fits : (c : tie.After-read3) → let r = c .before .before .before .before in
-    (c .read3 .given .0 .0 ≤ length (r .read .last .1 .0)) × (c .read3 .given .0 .1 .0 ≤ length (r .read .last .1 .1 .0))
+    let given = c .read3 .given .0 in
+    (given .0 ≤ length (r .read .last .1 .0)) × (given .1 .0 ≤ length (r .read .last .1 .1 .0))
 fits c =
     let r = c .before .before .before .before in
     let inside = accepted-fits _ _ _ _ _ _ (r .read .ensures) _ _ (c .read3 .given .1) in

@@ -44,7 +44,8 @@ returns c =
     let n = word .before .before .before .before .before .args .n in
     let fields =
     instance-written n (i .result) (word .put-bytes .ensures) (number .put-decimal .ensures .0)
-    (start .put-bits .ensures .0) (rate .put-bits2 .ensures .0) (offset .put-bits3 .ensures .0) (end .put-bytes2 .ensures)
+    (start .put-bits .ensures .0) (rate .put-bits2 .ensures .0) (offset .put-bits3 .ensures .0)
+    (end .put-bytes2 .ensures)
     in
     (rw (i .ensures) at fields, omega (arith, after-number number))
 

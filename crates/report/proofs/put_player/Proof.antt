@@ -17,7 +17,8 @@ returns c =
     let word = clock .before .before .before .before in
     let begun = more-written (word .put-bytes .ensures) (clock .put-wide .ensures .0) in
     let fields = more-written (more-written begun (speed .put-wide2 .ensures .0)) (state .put-decimal .ensures .0) in
-    (more-written (more-written fields (transition .put-transition .ensures .0)) (end .put-bytes2 .ensures), omega arith)
+    let line = more-written fields (transition .put-transition .ensures .0) in
+    (more-written line (end .put-bytes2 .ensures), omega arith)
 
 pub put-player-spec : {M : Type 1} → statement M
 put-player-spec =
