@@ -2,5 +2,3 @@
 pub mod Laws
 -- A number changes a struct where it lies
 pub mod Changed
--- A function that makes one call
-pub mod OneCall

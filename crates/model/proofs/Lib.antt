@@ -1,1 +1,3 @@
 pub mod Tags
+-- A function that makes one call
+pub mod OneCall

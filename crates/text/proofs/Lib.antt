@@ -1,4 +1,3 @@
-pub mod WalkLaws
 pub mod FieldLaws
 pub mod Laws
 pub mod LineLaws

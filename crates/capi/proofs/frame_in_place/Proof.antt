@@ -63,7 +63,7 @@ use Rattle.host_player.proofs.HostAnswer.Laws as N′
 use Rattle.host_player.proofs.host_frame as core
 use Rattle.host_player.proofs.host_frame.Symbol.{name as #core}
 use Rattle.host_player.proofs.host_frame.Met as core-thm
-use Rattle.controller.proofs.OneCall.{over-call}
+use Rattle.model.proofs.OneCall.{over-call}
 use Rattle.capi.proofs.Lent.{shut, opened}
 use Rattle.capi.proofs.Arrays.{parametersAt, instancesAt, Parameters, Instances, partsOf, withInstances, parameters, instances, Loans, Lent, lends, comes-back}
 use Rattle.capi.proofs.frame_in_place.Key.{name as #frame-in-place}

@@ -1,7 +1,7 @@
 -- `capi::gentianlathe_frame` meets its contract: it is an ordinary frame in place. Assumes nothing.
 use Rattle.model.specs.declared.FrameKind.the-variants.{Ordinary}
 use contract.Running.{givenOf}
-use Rattle.controller.proofs.OneCall.{over-call}
+use Rattle.model.proofs.OneCall.{over-call}
 use Rattle.capi.proofs.OfKind.{meets}
 use Rattle.capi.proofs.frame_in_place.Symbol as callee
 use Rattle.capi.proofs.frame_in_place.Met as callee-thm

@@ -53,7 +53,7 @@ use Rattle.host_player.proofs.HostAnswer.Laws as N′
 use Rattle.host_player.proofs.parameter_set as callee
 use Rattle.host_player.proofs.parameter_set.Symbol.{name as #callee}
 use Rattle.host_player.proofs.parameter_set.Met as callee-thm
-use Rattle.controller.proofs.OneCall.{over-call}
+use Rattle.model.proofs.OneCall.{over-call}
 use Rattle.capi.proofs.gentianlathe_set.Key.{name}
 use Rattle.capi.proofs.gentianlathe_set as f
 use Rattle.capi.proofs.gentianlathe_set.Statement as stated

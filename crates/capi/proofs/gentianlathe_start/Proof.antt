@@ -53,7 +53,7 @@ use Rattle.host_player.proofs.HostAnswer.Laws as N′
 use Rattle.host_player.proofs.started as callee
 use Rattle.host_player.proofs.started.Symbol.{name as #callee}
 use Rattle.host_player.proofs.started.Met as callee-thm
-use Rattle.controller.proofs.OneCall.{over-call}
+use Rattle.model.proofs.OneCall.{over-call}
 use Rattle.capi.proofs.gentianlathe_start.Key.{name}
 use Rattle.capi.proofs.gentianlathe_start as f
 use Rattle.capi.proofs.gentianlathe_start.Statement as stated

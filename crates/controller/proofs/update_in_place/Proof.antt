@@ -4,7 +4,7 @@ use Rattle.model.specs.Promises.{Updated}
 use Rattle.model.proofs.Player as T
 use Rattle.model.proofs.Player.Laws as T′
 use Rattle.controller.proofs.Changed.{meets}
-use Rattle.controller.proofs.OneCall.{over-call}
+use Rattle.model.proofs.OneCall.{over-call}
 use Rattle.controller.proofs.update.Symbol as callee
 use Rattle.controller.proofs.update.Met as callee-thm
 use Rattle.controller.proofs.update_in_place.Key.{name}

@@ -51,13 +51,12 @@ use Rattle.model.proofs.LineKind.Laws as K′
 use Rattle.text.specs.LineReading.{FieldStep}
 use Rattle.text.specs.declared.lines.Fields.{Fields}
 use Rattle.text.specs.declared.lines.LineReading.{LineReading}
-use Rattle.text.proofs.WalkLaws.{with-callee}
+use Rattle.model.proofs.OneCall.{over-call}
 use Rattle.text.proofs.lines.Fields as T
 use Rattle.text.proofs.lines.Fields.Laws as T′
 use Rattle.text.proofs.lines.LineReading as R
 use Rattle.text.proofs.lines.LineReading.Laws as R′
 use Rattle.text.proofs.lines.field_at as callee
-use Rattle.text.proofs.lines.field_at.Symbol as callee-def
 use Rattle.text.proofs.lines.field_at.Symbol.{name as #field-at}
 use Rattle.text.proofs.lines.field_at.Met as callee-thm
 use Rattle.text.proofs.lines.next.Key.{name as #next}
@@ -214,6 +213,5 @@ module _ {M : Type 1} (𝓤 : URA M) (H : Heap 𝓤) (A : Atoms 𝓤) (W : Given
 pub next-spec : {M : Type 1} → stated.statement M
 unfolding code.routine
 next-spec 𝓤 H 𝓜 𝓖 𝓡 =
-    with-callee 𝓤 H 𝓜 𝓡 code.env (tripleOf 𝓤 H (𝓖 .A) f.signature (f.spec 𝓤 H (𝓖 .A) (𝓜 .mem) (𝓡 .run))) (FieldAt 𝓤 H (𝓖 .A) (𝓜 .mem) (𝓡 .run))
-    #next #field-at code.function callee-def.routine (code.unfolded 𝓤 H 𝓜 𝓡) code.calls-text·lines·field-at (callee-thm.met 𝓤 H 𝓜 𝓖 𝓡)
+    over-call 𝓤 H 𝓜 𝓡 code.env _ _ _ #next code.function (code.unfolded 𝓤 H 𝓜 𝓡) #field-at code.calls-text·lines·field-at (callee-thm.met 𝓤 H 𝓜 𝓖 𝓡)
     (meets 𝓤 H (𝓖 .A) (givenOf 𝓤 H 𝓜 𝓖) (𝓜 .mem) (𝓡 .run))

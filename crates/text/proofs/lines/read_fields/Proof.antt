@@ -55,11 +55,10 @@ use Rattle.text.specs.declared.lines.LineReading.{LineReading}
 use Rattle.text.proofs.lines.LineReading as R
 use Rattle.text.proofs.lines.LineReading.Laws as R′
 use Rattle.text.specs.declared.lines.Fields.{Fields}
-use Rattle.text.proofs.WalkLaws.{with-callee}
+use Rattle.model.proofs.OneCall.{over-call}
 use Rattle.text.proofs.lines.Fields as T
 use Rattle.text.proofs.lines.Fields.Laws as T′
 use Rattle.text.proofs.lines.next as callee
-use Rattle.text.proofs.lines.next.Symbol as callee-def
 use Rattle.text.proofs.lines.next.Symbol.{name as #next}
 use Rattle.text.proofs.lines.next.Met as callee-thm
 use Rattle.text.proofs.lines.read_fields.Key.{name as #read-fields}
@@ -267,6 +266,5 @@ module _ {M : Type 1} (𝓤 : URA M) (H : Heap 𝓤) (A : Atoms 𝓤) (W : Given
 pub read-fields-spec : {M : Type 1} → stated.statement M
 unfolding code.routine
 read-fields-spec 𝓤 H 𝓜 𝓖 𝓡 =
-    with-callee 𝓤 H 𝓜 𝓡 code.env (tripleOf 𝓤 H (𝓖 .A) f.signature (f.spec 𝓤 H (𝓖 .A) (𝓜 .mem) (𝓡 .run))) (Next 𝓤 H (𝓖 .A) (𝓜 .mem) (𝓡 .run))
-    #read-fields #next code.function callee-def.routine (code.unfolded 𝓤 H 𝓜 𝓡) code.calls-text·lines·next (callee-thm.met 𝓤 H 𝓜 𝓖 𝓡)
+    over-call 𝓤 H 𝓜 𝓡 code.env _ _ _ #read-fields code.function (code.unfolded 𝓤 H 𝓜 𝓡) #next code.calls-text·lines·next (callee-thm.met 𝓤 H 𝓜 𝓖 𝓡)
     (meets 𝓤 H (𝓖 .A) (givenOf 𝓤 H 𝓜 𝓖) (𝓜 .mem) (𝓡 .run))
