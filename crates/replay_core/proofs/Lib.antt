@@ -1,4 +1,3 @@
 pub mod Laws
-pub mod Behind
 pub mod ListLaws
 pub mod Whole

@@ -22,7 +22,7 @@ use Rattle.replay_core.specs.declared.Progress.{Progress}
 use Rattle.replay_core.specs.Replay.{texts, reportFrom, playerAfter}
 use Rattle.replay_core.specs.Replaying.{maxReport, Called, callText, lineAfter, lineReport}
 use Rattle.replay_core.specs.Replaying.{Performance, performed, Performing}
-use Rattle.replay_core.proofs.Behind.{text-behind}
+use Rattle.calls.proofs.Behind.{text-behind}
 
 module _ (plan : List ℕ) (numbers : List Float) (text : List ℕ) where
   -- the lines behind the one at a place
