@@ -1,23 +1,29 @@
--- `narrow` of what a 64-bit pattern stands for is its case's 32-bit pattern. Assumes nothing.
-use mathlib.Core.Path.{_≡_, refl, sym, ap, _∙_}
+-- What the fields of a 64-bit pattern round to, the case that the pattern falls in, and that case's 32-bit pattern. Assumes nothing.
+use mathlib.Core.Path.{_≡_, refl, sym, ap, _∙_, subst}
 use mathlib.Core.Logic.{inl, inr}
 use Prim.Native.Nat.{ℕ, zero, suc, _+_, _-_, _*_, _/_, _%_, _^_, _≤_, _<_, min}
-use native.Mathlib.Nat.{zero-add, lt-of-lt-of-le, eq-or-lt-of-le, div-lt-iff-lt-mul, mul-le-mul-left}
+use native.Mathlib.Nat.{zero-add, lt-of-lt-of-le, div-lt-iff-lt-mul, mul-le-mul-left, min-eq-left, min-eq-right, le-of-lt}
 use native.Mathlib.Omega.{arith}
 use mathlib.Core.Bool.{Bool, true, false, not, cond}
-use lib.Dec.{T, leb, eqb, lit≤, leb→le, nleb→lt}
-use borrow.Author.Tests.{le-leb, lt-leb, ne-eqb}
+use lib.Dec.{T, leb, eqb, lit<}
+use borrow.Author.Tests.{le-leb, lt-leb, eq-eqb, ne-eqb}
 use lib.Pow.{pow-pos, pow-mono}
-use lib.Ieee.{Float, nan, inf, fin, binary32, binary64, up, down, odd, round, fits, ofFields, ofBits, toBits}
+use lib.Ieee.{Float, nan, inf, fin, binary32, binary64, up, down, odd, round, fits, isNan, ofFields, ofBits, toBits}
 use lib.Ieee.Fits.{down-pos}
-use lib.Ieee.Bits.{ofBits-toBits}
+use lib.Ieee.Bits.{ofBits-toBits, toBits-ofBits, nanBits-is}
 use lib.Ieee.Exact.{HasValue, odd-sign}
 use lib.Ieee.Scale.{round-same}
 use lib.Ieee.Nearest.{closest}
 use Rattle.model.specs.Numbers.{narrow}
-use Rattle.float.specs.Narrowing.{significand, narrowPattern, finiteCase, fieldsCase, narrowCase, casePattern}
-use Rattle.float.specs.declared.Narrowed.the-variants.{Nan, Infinite, TooLarge, Normal, Subnormal, Zero}
-use Rattle.float.proofs.Rounding.{closest-zero, Normalised, signed, rounded, round-bits, le-or-lt}
+use Rattle.model.specs.Classes.{IsNaN, IsInfinite, IsFinite, IsZero, IsNormal, IsSubnormal}
+use Rattle.model.specs.Narrowing.{value, roundedResult, isMinus, magnitudeBits, FallsIn, withSign, delivered}
+use Rattle.model.specs.ExactlyOne.{narrow-delivers}
+use Rattle.model.specs.Laws.Classes.{fields-finite, fields-normal, fields-subnormal}
+use Rattle.model.specs.declared.Narrowed.{Narrowed}
+use Rattle.model.specs.declared.Narrowed.the-variants.{Nan, Infinite, TooLarge, Normal, Subnormal, Zero}
+use Rattle.float.specs.Narrowing.{RoundsTo, casePattern}
+use Rattle.float.proofs.Patterns.{up-to-infinity}
+use Rattle.float.proofs.Rounding.{closest-zero, Normalised, rounded, round-bits, infinite}
 
 -- what is rounded is the value
 narrow-value : (v : Float) (s : Bool) (a c : ℕ) → 0 < c → HasValue v s a c → narrow v ≡ round binary32 s a c
@@ -36,58 +42,134 @@ narrow-low s q x h e hi g = narrow-odd s q x h 0 e (div-lt-iff-lt-mul (pow-pos h
 narrow-zero : (s : Bool) (q x h : ℕ) → x + 149 + h ≡ 1074 → q < 2 ^ 53 → 54 ≤ h → narrow (odd 53 s q x 1074) ≡ rounded s 0
 narrow-zero s q x h e hi g = narrow-low s q x h e hi (omega arith) ∙ ap (rounded s) (closest-zero q (2 ^ h) (lt-of-lt-of-le {m = 2 ^ 54} (omega arith) (pow-mono g)))
 
--- ---- a finite pattern, by the ranges of its exponent
+-- ---- what the fields x and t of a finite pattern round to, by the ranges of x
 
-narrow-finite : (s : Bool) (x t : ℕ) → x < 2047 → t < 2 ^ 52 → narrow (ofFields binary64 s x t) ≡ rounded s (narrowPattern x t)
-unfolding ofFields narrowPattern
-narrow-finite s zero t hx ht = narrow-zero s t 0 925 refl (omega arith) (omega arith)
-narrow-finite s (suc x) t hx ht = rw (ne-eqb (suc x) 2047 (λ (e : suc x ≡ 2047). omega arith)) (elim (le-or-lt 897 (suc x)) [
-  | inl h ↦ rw (le-leb 897 (suc x) h) (narrow-odd s (significand t) x 29 (suc x - 897) (omega arith) (omega arith) (inr (omega arith)))
-  | inr h ↦ rw (lt-leb 897 (suc x) h) (elim (le-or-lt 873 (suc x)) [
-    | inl g ↦ rw (le-leb 873 (suc x) g) (narrow-low s (significand t) x (926 - suc x) (omega arith) (omega arith) (omega arith))
-    | inr g ↦ rw (lt-leb 873 (suc x) g) (narrow-zero s (significand t) x (925 - x) (omega arith) (omega arith) (omega arith))
-  ])
-])
+pub rounds-normal : (x t : ℕ) → 897 ≤ x → x < 2047 → t < 2 ^ 52 → RoundsTo x t ((x - 897) * 0x80_0000 + closest (2 ^ 52 + t) (2 ^ 29))
+unfolding ofFields
+rounds-normal zero t h hx ht s = absurd (omega arith)
+rounds-normal (suc x) t h hx ht s = rw (ne-eqb (suc x) 2047 (λ (e : suc x ≡ 2047). omega arith)) (narrow-odd s (2 ^ 52 + t) x 29 (suc x - 897) (omega arith) (omega arith) (inr (omega arith)))
 
--- ---- the cases
+pub rounds-low : (x t : ℕ) → 873 ≤ x → x < 897 → t < 2 ^ 52 → RoundsTo x t (closest (2 ^ 52 + t) (2 ^ (29 + (897 - x))))
+unfolding ofFields
+rounds-low zero t h hx ht s = absurd (omega arith)
+rounds-low (suc x) t h hx ht s = rw (ne-eqb (suc x) 2047 (λ (e : suc x ≡ 2047). omega arith)) (narrow-low s (2 ^ 52 + t) x (29 + (897 - suc x)) (omega arith) (omega arith) (omega arith))
 
-finite-pattern : (n : ℕ) → casePattern (finiteCase n) ≡ min n 0x7f80_0000
-unfolding casePattern finiteCase
-finite-pattern n = go (leb 0x7f80_0000 n) (leb 0x80_0000 n) (leb 1 n) (leb→le 0x7f80_0000 n) (nleb→lt 0x7f80_0000 n) (nleb→lt 1 n)
-  where
-    go : (a b c : Bool) → (T a → 0x7f80_0000 ≤ n) → (T (not a) → n < 0x7f80_0000) → (T (not c) → n < 1)
-        → casePattern (cond a TooLarge (cond b (Normal n) (cond c (Subnormal n) Zero))) ≡ min n 0x7f80_0000
-    go true b c p q r = let h = p tt in omega arith
-    go false true c p q r = let h = q tt in omega arith
-    go false false true p q r = let h = q tt in omega arith
-    go false false false p q r = let h = r tt in omega arith
+pub rounds-zero : (x t : ℕ) → x < 873 → t < 2 ^ 52 → RoundsTo x t 0
+unfolding ofFields
+rounds-zero zero t hx ht s = narrow-zero s t 0 925 refl (omega arith) (omega arith)
+rounds-zero (suc x) t hx ht s = rw (ne-eqb (suc x) 2047 (λ (e : suc x ≡ 2047). omega arith)) (narrow-zero s (2 ^ 52 + t) x (925 - x) (omega arith) (omega arith) (omega arith))
 
-pub pattern-le : (b : ℕ) → casePattern (narrowCase b) ≤ 0x7fc0_0000
-unfolding casePattern fieldsCase
-pattern-le b = go (eqb (b % 2 ^ 63 / 2 ^ 52) 2047) (eqb (b % 2 ^ 52) 0) (narrowPattern (b % 2 ^ 63 / 2 ^ 52) (b % 2 ^ 52))
-  where
-    go : (s t : Bool) (n : ℕ) → casePattern (cond s (cond t Infinite Nan) (finiteCase n)) ≤ 0x7fc0_0000
-    go true true n = lit≤ tt
-    go true false n = lit≤ tt
-    go false t n = rw (finite-pattern n) (omega arith)
+-- ---- the class of a 32-bit pattern
 
--- the highest exponent is an infinity's, or a NaN's
-highest : (s b : Bool) → narrow (cond b (inf s) nan) ≡ signed s (casePattern (cond b Infinite Nan))
-unfolding narrow casePattern ofBits
-highest true true = refl
-highest true false = refl
-highest false true = refl
-highest false false = refl
-
-fields-pattern : (s : Bool) (x t : ℕ) → x ≤ 2047 → t < 2 ^ 52 → narrow (ofFields binary64 s x t) ≡ signed s (casePattern (fieldsCase x t))
-unfolding fieldsCase ofFields
-fields-pattern s x t hx ht = elim (eq-or-lt-of-le hx) [
-  | inl e ↦ rw e (highest s (eqb t 0))
-  | inr l ↦ rw (ne-eqb x 2047 (λ (e : x ≡ 2047). omega arith), finite-pattern (narrowPattern x t)) (narrow-finite s x t l ht)
-]
-
-pub narrow-bits : (x : Float) → T (fits binary64 x) → narrow x ≡ signed (leb (2 ^ 63) (toBits binary64 x)) (casePattern (narrowCase (toBits binary64 x)))
+with-sign-fields : (s : Bool) (n : ℕ) → n < 2 ^ 31 → withSign s n ≡ ofFields binary32 s (n / 2 ^ 23) (n % 2 ^ 23)
 unfolding ofBits
-narrow-bits x f =
+with-sign-fields true n h =
+    let x : (2 ^ 31 + n) % 2 ^ 31 / 2 ^ 23 ≡ n / 2 ^ 23 = omega arith in
+    let t : (2 ^ 31 + n) % 2 ^ 23 ≡ n % 2 ^ 23 = omega arith in
+    rw (le-leb (2 ^ 31) (2 ^ 31 + n) (omega arith), x, t)
+with-sign-fields false n h =
+    let x : n % 2 ^ 31 / 2 ^ 23 ≡ n / 2 ^ 23 = omega arith in
+    rw (zero-add n, lt-leb (2 ^ 31) n h, x)
+
+with-sign-normal : (s : Bool) (n : ℕ) → 0x80_0000 ≤ n → n < 0x7f80_0000 → IsNormal binary32 (withSign s n)
+with-sign-normal s n lo hi =
+    let x : n / 2 ^ 23 ≡ suc (n / 2 ^ 23 - 1) = omega arith in
+    rw (with-sign-fields s n (omega arith), x) (fields-normal binary32 s (n / 2 ^ 23 - 1) (n % 2 ^ 23) (λ (e : suc (n / 2 ^ 23 - 1) ≡ 255). omega arith))
+
+with-sign-subnormal : (s : Bool) (n : ℕ) → 1 ≤ n → n < 0x80_0000 → IsSubnormal binary32 (withSign s n)
+with-sign-subnormal s n lo hi =
+    let x : n / 2 ^ 23 ≡ 0 = omega arith in
+    rw (with-sign-fields s n (omega arith), x) (fields-subnormal binary32 s (n % 2 ^ 23) (omega arith) (omega arith))
+
+with-sign-zero : (s : Bool) → IsZero (withSign s 0)
+unfolding ofBits
+with-sign-zero true = refl
+with-sign-zero false = refl
+
+magnitude-back : (s : Bool) (n : ℕ) → n < 0x7f80_0000 → n ≡ magnitudeBits (withSign s n)
+magnitude-back s n h =
+    let l = bounded s in
+    let b = cond s (2 ^ 31) 0 + n in
+    let e : toBits binary32 (ofBits binary32 b) ≡ b = toBits-ofBits binary32 b (l .0) (subst (λ (t : Bool). T (not t)) (nanBits-is binary32 b) (up-to-infinity binary32 b (l .1))) in
+    sym (ap (λ (z : ℕ). z % 2 ^ 31) e ∙ l .2)
+  where
+    bounded : (s : Bool) → (cond s (2 ^ 31) 0 + n < 2 ^ 32) × ((cond s (2 ^ 31) 0 + n) % 2 ^ 31 ≤ 0x7f80_0000) × ((cond s (2 ^ 31) 0 + n) % 2 ^ 31 ≡ n)
+    bounded true = (omega arith, omega arith, omega arith)
+    bounded false = (omega arith, omega arith, omega arith)
+
+-- ---- the case that a pattern falls in
+
+abbrev pub exponentOf : ℕ → ℕ
+exponentOf b = b % 2 ^ 63 / 2 ^ 52
+
+abbrev pub fractionOf : ℕ → ℕ
+fractionOf b = b % 2 ^ 52
+
+-- of the highest exponent
+highest : (s : Bool) (x t : ℕ) → x ≡ 2047 → ofFields binary64 s x t ≡ cond (eqb t 0) (inf s) nan
+unfolding ofFields
+highest s x t e = rw e refl
+
+module _ (b : ℕ) where
+  pub falls-nan : exponentOf b ≡ 2047 → ¬ (fractionOf b ≡ 0) → FallsIn b Nan
+  unfolding ofBits
+  falls-nan e n = rw (highest (isMinus b) (exponentOf b) (fractionOf b) e, ne-eqb (fractionOf b) 0 n) tt
+
+  pub falls-infinite : exponentOf b ≡ 2047 → fractionOf b ≡ 0 → FallsIn b Infinite
+  unfolding ofBits
+  falls-infinite e z = rw (highest (isMinus b) (exponentOf b) (fractionOf b) e, eq-eqb (fractionOf b) 0 z) tt
+
+  -- of the others by the pattern n that they round to
+  module _ (n : ℕ) (finite : ¬ (exponentOf b ≡ 2047)) (rounds : RoundsTo (exponentOf b) (fractionOf b) n) where
+    value-finite : IsFinite (value b)
+    unfolding ofBits
+    value-finite = fields-finite binary64 (isMinus b) (exponentOf b) (fractionOf b) finite
+
+    result : roundedResult b ≡ withSign (isMinus b) (min n 0x7f80_0000)
+    unfolding ofBits
+    result = rounds (isMinus b)
+
+    pub falls-too-large : 0x7f80_0000 ≤ n → FallsIn b TooLarge
+    falls-too-large h = (value-finite, rw (result, min-eq-right h, ← infinite (isMinus b)) tt)
+
+    within : n < 0x7f80_0000 → roundedResult b ≡ withSign (isMinus b) n
+    within h = result ∙ ap (withSign (isMinus b)) (min-eq-left (le-of-lt h))
+
+    pub falls-normal : n < 0x7f80_0000 → 0x80_0000 ≤ n → FallsIn b (Normal n)
+    falls-normal h l = rw (within h) (value-finite, with-sign-normal (isMinus b) n l h, magnitude-back (isMinus b) n h)
+
+    pub falls-subnormal : n < 0x80_0000 → 1 ≤ n → FallsIn b (Subnormal n)
+    falls-subnormal h l = rw (within (omega arith)) (value-finite, with-sign-subnormal (isMinus b) n l h, magnitude-back (isMinus b) n (omega arith))
+
+    pub falls-zero : n < 1 → FallsIn b Zero
+    falls-zero h =
+        let z : n ≡ 0 = omega arith in
+        rw (within (omega arith), z) (value-finite, with-sign-zero (isMinus b))
+
+-- ---- a case's pattern
+
+pub pattern-below : (b : ℕ) (c : Narrowed) → FallsIn b c → casePattern c < 2 ^ 31
+unfolding casePattern
+pattern-below b Nan h = lit< tt
+pattern-below b Infinite h = lit< tt
+pattern-below b TooLarge h = lit< tt
+pattern-below b (Normal n) h = omega (arith, h .2)
+pattern-below b (Subnormal n) h = omega (arith, h .2)
+pattern-below b Zero h = lit< tt
+
+-- under the sign it is what the standard delivers
+delivered-pattern : (s : Bool) (c : Narrowed) → delivered s c ≡ withSign s (casePattern c)
+unfolding casePattern ofBits
+delivered-pattern true Nan = refl
+delivered-pattern false Nan = refl
+delivered-pattern s Infinite = infinite s
+delivered-pattern s TooLarge = infinite s
+delivered-pattern s (Normal n) = refl
+delivered-pattern s (Subnormal n) = refl
+delivered-pattern true Zero = refl
+delivered-pattern false Zero = refl
+
+pub narrow-bits : (x : Float) (c : Narrowed) → T (fits binary64 x) → FallsIn (toBits binary64 x) c → narrow x ≡ withSign (isMinus (toBits binary64 x)) (casePattern c)
+narrow-bits x c f h =
     let b = toBits binary64 x in
-    ap narrow (sym (ofBits-toBits binary64 x f)) ∙ fields-pattern (leb (2 ^ 63) b) (b % 2 ^ 63 / 2 ^ 52) (b % 2 ^ 52) (omega arith) (omega arith)
+    ap narrow (sym (ofBits-toBits binary64 x f)) ∙ narrow-delivers b c h ∙ delivered-pattern (isMinus b) c

@@ -14,6 +14,7 @@ use lib.Ieee.Fits.{down-pos, odd-fits, nearest-le, round-is}
 use lib.Ieee.Bits.{ofBits-toBits}
 use lib.Ieee.Exact.{HasValue, odd-sign}
 use lib.Ieee.Nearest.{closest, closest-same, div-same, nearest-ge}
+use Rattle.model.specs.Narrowing.{withSign}
 
 pub le-or-lt : (a b : ℕ) → (a ≤ b) ⊎ (b < a)
 le-or-lt a b = go (leb a b) (leb→le a b) (nleb→lt a b)
@@ -105,13 +106,9 @@ toBits-value nan s n h = absurd h
 toBits-value (inf t) s n h = absurd h
 toBits-value (fin t m e) s n h = rw (h .0, h .1, mul-div-cancel n (down-pos e)) (omega arith)
 
--- the float of a sign and a pattern without it
-abbrev pub signed : Bool → ℕ → Float
-signed s n = ofBits binary32 (cond s 0x8000_0000 0 + n)
-
 -- ---- a rounded number: from the infinity's pattern on it is an infinity
 abbrev pub rounded : Bool → ℕ → Float
-rounded s n = signed s (min n 0x7f80_0000)
+rounded s n = withSign s (min n 0x7f80_0000)
 
 exponent-lt : {i j : ℕ} → 2 ^ i < 2 ^ j → i < j
 exponent-lt {i} {j} h = lt-of-not-le (λ (g : j ≤ i). not-le-of-lt h (pow-mono g))
@@ -131,7 +128,7 @@ out-of-range q k hi lo h = elim (eq-or-lt-of-le hi) [
     below (inl z) l = omega arith
     below (inr lo) l = omega arith
 
-infinite : (s : Bool) → inf s ≡ signed s 0x7f80_0000
+pub infinite : (s : Bool) → inf s ≡ withSign s 0x7f80_0000
 unfolding ofBits
 infinite true = refl
 infinite false = refl

@@ -4,13 +4,32 @@ ghost use Prim.Native.Nat.{_<_, _^_};
 ghost use lib.Ieee.{binary32, binary64, ofBits, toBits};
 ghost use lib.Ieee.Nearest.{closest};
 ghost use Rattle.model.specs.Numbers.{narrow, floorIndex, ceilingIndex, indexFloat};
-ghost use Rattle.float.specs.Narrowing.{narrowPattern, narrowCase, casePattern};
+ghost use Rattle.model.specs.Narrowing.{FallsIn};
+ghost use Rattle.float.specs.Narrowing.{RoundsTo, casePattern};
+use crate::formats::HALF_SUBNORMAL_EXPONENT;
+use crate::formats::INFINITY_32;
+use crate::formats::INFINITY_64;
+use crate::formats::LEADING_32;
+use crate::formats::LEADING_64;
+use crate::formats::LEAST_EXPONENT;
+use crate::formats::LEAST_NORMAL;
+use crate::formats::LEAST_SUBNORMAL;
+use crate::formats::LEAST_TOO_LARGE;
+use crate::formats::NAN_32;
+use crate::formats::NAN_64;
+use crate::formats::ONES_64;
+use crate::formats::SIGN_32;
+use crate::formats::SIGN_64;
+use crate::formats::SURPLUS_DIGITS;
+use model::Narrowed;
+
+pub mod formats;
 
 // f32::from_bits asks for no NaN, so a NaN's patterns are made into one by a division.
 pub fn f32_from_bits(b: u32) -> f32
     ensures { λ r. ⌜ r ≡ ofBits binary32 b ⌝ }
 {
-    if b % 0x8000_0000 > 0x7f80_0000 {
+    if b % SIGN_32 > INFINITY_32 {
         0.0 / 0.0
     } else {
         f32::from_bits(b)
@@ -21,13 +40,13 @@ pub fn f32_from_bits(b: u32) -> f32
 pub fn f32_to_bits(x: f32) -> u32
     ensures { λ r. ⌜ r ≡ toBits binary32 x ⌝ }
 {
-    if x != x { 0x7fc0_0000 } else { f32::to_bits(x) }
+    if x != x { NAN_32 } else { f32::to_bits(x) }
 }
 
 pub fn f64_from_bits(b: u64) -> f64
     ensures { λ r. ⌜ r ≡ ofBits binary64 b ⌝ }
 {
-    if b % 0x8000_0000_0000_0000 > 0x7ff0_0000_0000_0000 {
+    if b % SIGN_64 > INFINITY_64 {
         0.0 / 0.0
     } else {
         f64::from_bits(b)
@@ -37,11 +56,7 @@ pub fn f64_from_bits(b: u64) -> f64
 pub fn f64_to_bits(x: f64) -> u64
     ensures { λ r. ⌜ r ≡ toBits binary64 x ⌝ }
 {
-    if x != x {
-        0x7ff8_0000_0000_0000
-    } else {
-        f64::to_bits(x)
-    }
+    if x != x { NAN_64 } else { f64::to_bits(x) }
 }
 
 // Both widths share their values: the same number, infinity or NaN.
@@ -51,7 +66,9 @@ pub fn widen(x: f32) -> f64
     std::num::f32_to_f64_with_nan(x)
 }
 
-// n / 2 ^ k, rounded as IEEE 754 rounds: half way goes to the even neighbour.
+// ---- narrowing, by the cases of IEEE 754: docs/NARROWING.md has the standard's sentence, the predicate and the branch side by side
+
+// n / 2 ^ k rounded to a whole number (4.3.1, roundTiesToEven): the nearer one, and half way the even one.
 fn rounding_shift(n: u64, k: u64) -> u64
     requires { ⌜ (0 < k) × (k < 64) ⌝ }
     ensures { λ r. ⌜ r ≡ closest n (2 ^ k) ⌝ }
@@ -69,51 +86,48 @@ fn rounding_shift(n: u64, k: u64) -> u64
     }
 }
 
-// The 32-bit pattern, without its sign, that the fields of a finite 64-bit pattern round to, by the ranges of `narrowPattern`.
-fn narrow_pattern(exponent: u64, fraction: u64) -> u64
+// A finite value's rounded result, had the exponents no upper end (7.4), as a 32-bit pattern without its sign. Exponent and fraction are the value's fields.
+fn rounded_pattern(exponent: u64, fraction: u64) -> u64
     requires { ⌜ (exponent < 2047) × (fraction < 2 ^ 52) ⌝ }
-    ensures { λ r. ⌜ r ≡ narrowPattern exponent fraction ⌝ }
+    ensures { λ r. ⌜ RoundsTo exponent fraction r ⌝ }
 {
-    if exponent >= 897 {
-        (exponent - 897) * 0x80_0000 + rounding_shift(0x10_0000_0000_0000 + fraction, 29)
-    } else if exponent >= 873 {
-        rounding_shift(0x10_0000_0000_0000 + fraction, 926 - exponent)
+    if exponent >= LEAST_EXPONENT {
+        // A normal result keeps as many digits as the format has. Its leading digit is one more in the exponent's field, and a carry another one.
+        (exponent - LEAST_EXPONENT) * LEADING_32
+            + rounding_shift(LEADING_64 + fraction, SURPLUS_DIGITS)
+    } else if exponent >= HALF_SUBNORMAL_EXPONENT {
+        // Below the least exponent the last place stays where it is, so each exponent less costs a digit more.
+        rounding_shift(
+            LEADING_64 + fraction,
+            SURPLUS_DIGITS + (LEAST_EXPONENT - exponent),
+        )
     } else {
+        // Less than half of the least subnormal. A 64-bit subnormal or zero is far below, so that its missing leading digit does not matter.
         0
     }
 }
 
-// The cases of narrowing a 64-bit pattern. A finite one goes by its rounded result, which the case holds as a 32-bit pattern without its sign.
-enum Narrowed {
-    Nan,
-    Infinite,
-    // Finite, and rounded to an infinity.
-    TooLarge,
-    Normal(u32),
-    Subnormal(u32),
-    Zero,
-}
-
+// A pattern's case. Patterns without their sign are in the order of their values (3.4), so the rounded result's is compared with the least of each class.
 fn narrow_case(b: u64) -> Narrowed
-    ensures { λ r. ⌜ r ≡ narrowCase b ⌝ }
+    ensures { λ r. ⌜ FallsIn b r ⌝ }
 {
-    let exponent = b % 0x8000_0000_0000_0000 / 0x10_0000_0000_0000;
-    let fraction = b % 0x10_0000_0000_0000;
-    if exponent == 2047 {
-        if fraction == 0 {
-            return Narrowed::Infinite;
+    let exponent = b % SIGN_64 / LEADING_64;
+    let fraction = b % LEADING_64;
+    if exponent == ONES_64 {
+        if fraction != 0 {
+            return Narrowed::Nan;
         }
-        return Narrowed::Nan;
+        return Narrowed::Infinite;
     }
-    let n = narrow_pattern(exponent, fraction);
-    if n >= 0x7f80_0000 {
+    let rounded = rounded_pattern(exponent, fraction);
+    if rounded >= LEAST_TOO_LARGE {
         return Narrowed::TooLarge;
     }
-    if n >= 0x80_0000 {
-        return Narrowed::Normal(n as u32);
+    if rounded >= LEAST_NORMAL {
+        return Narrowed::Normal(rounded as u32);
     }
-    if n >= 1 {
-        return Narrowed::Subnormal(n as u32);
+    if rounded >= LEAST_SUBNORMAL {
+        return Narrowed::Subnormal(rounded as u32);
     }
     Narrowed::Zero
 }
@@ -123,27 +137,29 @@ fn case_pattern(case: Narrowed) -> u32
     ensures { λ r. ⌜ r ≡ casePattern case ⌝ }
 {
     match case {
-        Narrowed::Nan => 0x7fc0_0000,
-        Narrowed::Infinite => 0x7f80_0000,
-        Narrowed::TooLarge => 0x7f80_0000,
+        Narrowed::Nan => NAN_32,
+        Narrowed::Infinite => INFINITY_32,
+        Narrowed::TooLarge => INFINITY_32,
         Narrowed::Normal(n) => n,
         Narrowed::Subnormal(n) => n,
         Narrowed::Zero => 0,
     }
 }
 
-// Worked out on the pattern, since the cast `x as f32` is not supplied.
+// Worked out on the pattern, since the cast `x as f32` is not supplied. The sign is kept.
 pub fn narrow(x: f64) -> f32
     ensures { λ r. ⌜ r ≡ narrow x ⌝ }
 {
     let b = f64_to_bits(x);
     let n = case_pattern(narrow_case(b));
-    if b < 0x8000_0000_0000_0000 {
+    if b < SIGN_64 {
         f32_from_bits(n)
     } else {
-        f32_from_bits(0x8000_0000 + n)
+        f32_from_bits(SIGN_32 + n)
     }
 }
+
+// ---- indices
 
 // Rust's `x.floor() as usize`. Truncation is the floor from 0 on; what has no index gets the first or the last.
 pub fn floor_index(x: f32) -> u64

@@ -17,3 +17,4 @@ pub mod Text
 pub mod Reading
 pub mod Output
 pub mod Stores
+pub mod Classes

@@ -15,9 +15,13 @@ pub mod Unseen
 pub mod Text
 pub mod Program
 pub mod Promises
+-- document 02's, one file a card, and the classes of floats that they speak of
+pub mod Classes
+pub mod Narrowing
 -- what follows from them
 pub mod Laws
 pub mod Bench
 pub mod BenchText
 pub mod Wrap
+pub mod ExactlyOne
 pub mod Unused

@@ -68,6 +68,18 @@ pub struct Player {
     pub instances: [f32; MAX_INSTANCES],
 }
 
+// The cases of narrowing a 64-bit pattern to 32 bits, by IEEE 754 (document 02, Card 4). A finite one goes by its rounded result; what Normal and
+// Subnormal hold is that result's pattern without its sign.
+pub enum Narrowed {
+    Nan,
+    Infinite,
+    // Finite, and rounded to an infinity.
+    TooLarge,
+    Normal(u32),
+    Subnormal(u32),
+    Zero,
+}
+
 // Which of a state's transitions wins, by its number.
 pub enum Winner {
     At(usize),
