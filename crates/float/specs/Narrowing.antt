@@ -15,7 +15,8 @@ infinityPattern = ones binary32 * hid binary32
 abbrev pub nanPattern : ℕ
 nanPattern = infinityPattern + hid binary32 / 2
 
--- the 64-bit floats with the exponent's field x and the fraction t round to the 32-bit pattern n, without its sign; from the infinity's pattern on to infinities
+-- the 64-bit floats with the exponent's field x and the fraction t round to the 32-bit pattern n, without its sign. From the infinity's pattern on they
+-- round to an infinity
 abbrev pub RoundsTo : ℕ → ℕ → ℕ → Type 0
 RoundsTo x t n = (s : Bool) → narrow (ofFields binary64 s x t) ≡ withSign s (min n infinityPattern)
 

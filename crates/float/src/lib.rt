@@ -205,6 +205,6 @@ pub fn index_to_float(n: u64) -> f32
         n as f32
     } else {
         let k = (40 - u64::leading_zeros(n)) as u64;
-        f32_from_bits(((149 + k) * 0x80_0000 + rounding_shift(n, k)) as u32)
+        f32_from_bits(((149 + k) * LEADING_32 + rounding_shift(n, k)) as u32)
     }
 }

@@ -1,11 +1,11 @@
 -- Document 02, Card 4: 'every 64-bit pattern falls in exactly one of them', and what narrowing delivers in that one, the sign kept.
 use Prim.Native.Nat.{ℕ, zero, suc, _+_, _-_, _*_, _/_, _%_, _^_, _≤_, _<_, compare}
-use native.Mathlib.Nat.{not-le-of-lt, lt-irrefl, zero-lt-suc, zero-mul, pow-suc}
+use native.Mathlib.Nat.{not-le-of-lt, zero-mul, pow-suc}
 use native.Mathlib.Omega.{arith}
 use mathlib.Core.Path.{_≡_, refl, sym, ap, _∙_, subst}
 use mathlib.Core.Bool.{Bool, true, false, cond}
 use lib.IntN.{ℤ, pos, negsuc}
-use lib.Dec.{T, leb, eqb, ltb, eqb→eq, lit≤, lit<}
+use lib.Dec.{T, leb, eqb, ltb, eqb→eq, lit≤}
 use borrow.Author.Tests.{le-leb, lt-leb, leb-true, leb-false}
 use lib.Ieee.{Float, nan, inf, fin, Format, binary32, binary64, emax, prec, low, hid, ones, top, up, down, size, odd, units, nearest, round, fits, ofFields, toBits, ofBits}
 use lib.Ieee.Fits.{down-pos, round-fits, nan-fits, inf-fits}
@@ -180,7 +180,7 @@ module _ (b : ℕ) where
       go : (t : Bool) → (t ≡ true → down k ≤ suc m * up k * 2 ^ 126) → (t ≡ false → suc m * up k * 2 ^ 126 < down k)
           → FallsIn b (cond t (Normal (magnitudeBits (fin s (suc m) k))) (Subnormal (magnitudeBits (fin s (suc m) k))))
       go true ge lt = (h, subst (IsNormal binary32) (sym e) (ge refl), ap magnitudeBits (sym e))
-      go false ge lt = (h, subst (IsSubnormal binary32) (sym e) (zero-lt-suc m, lt refl), ap magnitudeBits (sym e))
+      go false ge lt = (h, subst (IsSubnormal binary32) (sym e) (omega arith, lt refl), ap magnitudeBits (sym e))
 
   falls : (x : Float) → value b ≡ x → FallsIn b (caseOf x)
   falls nan e = subst IsNaN (sym e) tt
@@ -224,7 +224,7 @@ normal-only (fin s (suc m) e) h = rw (le-leb (down e) (suc m * up e * 2 ^ 126) h
 subnormal-only : (r : Float) → IsSubnormal binary32 r → Subnormal (magnitudeBits r) ≡ byResult r
 subnormal-only nan h = absurd h
 subnormal-only (inf s) h = absurd h
-subnormal-only (fin s zero e) h = absurd (lt-irrefl 0 (h .0))
+subnormal-only (fin s zero e) h = absurd (omega (arith, h .0))
 subnormal-only (fin s (suc m) e) h = rw (lt-leb (down e) (suc m * up e * 2 ^ 126) (h .1))
 
 only : (b : ℕ) (c : Narrowed) → FallsIn b c → c ≡ caseOf (value b)
@@ -239,20 +239,16 @@ only b Zero h = zero-only (roundedResult b) (h .1) ∙ finite-only (value b) (h 
 pub exactly-one : (b : ℕ) → (c : Narrowed) × FallsIn b c × ((d : Narrowed) → FallsIn b d → d ≡ c)
 exactly-one b = (caseOf (value b), falls b (value b) refl, only b)
 
--- ---- the borders between the finite cases: on each side the pattern nearest to it. Each is at a tie, which goes to the even neighbour
+-- ---- the ties between the finite cases: half way between two results, the even one is taken. (Which patterns fall in each case is float's `ranges`.)
 
-pub record Borders : Type 0 where
-  -- half of the least subnormal, 2 ^ -150, goes to zero; what is above it does not
-  pub half-subnormal : FallsIn 0x3690_0000_0000_0000 Zero
-  pub above-half : FallsIn 0x3690_0000_0000_0001 (Subnormal 1)
-  -- half way from the greatest subnormal to the least normal, 2 ^ -126 - 2 ^ -150, goes up; what is below it does not
-  pub below-tie : FallsIn 0x380f_ffff_dfff_ffff (Subnormal 0x7f_ffff)
-  pub into-normal : FallsIn 0x380f_ffff_e000_0000 (Normal 0x80_0000)
-  -- half way from the greatest float to 2 ^ 128, 2 ^ 128 - 2 ^ 103, overflows; what is below it does not
-  pub greatest : FallsIn 0x47ef_ffff_efff_ffff (Normal 0x7f7f_ffff)
-  pub overflows : FallsIn 0x47ef_ffff_f000_0000 TooLarge
+pub record Ties : Type 0 where
+  -- 2 ^ -150, half of the least subnormal: to zero
+  pub to-zero : FallsIn 0x3690_0000_0000_0000 Zero
+  -- 2 ^ -126 - 2 ^ -150, between the greatest subnormal and the least normal: up into the normal one
+  pub to-normal : FallsIn 0x380f_ffff_e000_0000 (Normal 0x80_0000)
+  -- 2 ^ 128 - 2 ^ 103, between the greatest float and 2 ^ 128, which is too large: up too
+  pub to-too-large : FallsIn 0x47ef_ffff_f000_0000 TooLarge
 
-pub borders : Borders
+pub ties : Ties
 unfolding floats-opened
-borders =
-    record { half-subnormal = (tt, refl); above-half = (tt, (lit< tt, lit< tt), refl); below-tie = (tt, (lit< tt, lit< tt), refl); into-normal = (tt, lit≤ tt, refl); greatest = (tt, lit≤ tt, refl); overflows = (tt, tt) }
+ties = record { to-zero = (tt, refl); to-normal = (tt, lit≤ tt, refl); to-too-large = (tt, tt) }

@@ -1,4 +1,4 @@
-// The types of the interface. What they mean is defined in specs/, one file for each section of document 01.
+// The types of the interface. What they mean is defined in specs/, one file for each section of document 01 and each card of document 02.
 use crate::limits::MAX_INSTANCES;
 use crate::limits::MAX_PARAMETERS;
 ghost use mathlib.Core.Path.{_≡_};

@@ -1,5 +1,6 @@
 //! Random rows from a seed.
 
+use crate::narrowing::near_borders;
 use crate::row::{Kind, Row};
 use skeletal_animation::math::quaternion_to_matrix;
 
@@ -245,8 +246,13 @@ impl Generator {
         words
     }
 
-    /// Half way between two neighbouring 32-bit floats, or a step away from that.
+    /// At a border between two cases; or half way between two neighbouring 32-bit floats, or a step
+    /// away from that.
     fn narrow_tie(&mut self) -> Vec<u32> {
+        if self.below(4) == 0 {
+            let bits = self.pick(&near_borders());
+            return vec![(bits >> 32) as u32, bits as u32];
+        }
         let word = (self.draw() as u32) % 0x7f80_0000;
         let word = if self.below(4) == 0 {
             word % 0x0100_0000

@@ -5,6 +5,7 @@
 pub mod generator;
 pub mod judge;
 pub mod lists;
+pub mod narrowing;
 pub mod program;
 pub mod recorded;
 pub mod reference;

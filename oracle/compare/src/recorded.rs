@@ -1,6 +1,7 @@
 //! The recorded list: every branch, tie and limit by name, and random rows of a fixed seed.
 
 use crate::generator::{midpoint, Generator, SPECIAL, WRAP_LIMITS};
+use crate::narrowing::near_borders;
 use crate::row::{Kind, Row};
 use std::collections::BTreeSet;
 
@@ -59,7 +60,8 @@ fn floats(rows: &mut Vec<Row>) {
     }
 }
 
-/// Ties and the values beside them, from the least subnormal to the greatest float.
+/// Ties and the values beside them, from the least subnormal to the greatest float, and the borders
+/// between the cases.
 fn narrow(rows: &mut Vec<Row>) {
     let lower = [
         0x0000_0000,
@@ -98,6 +100,8 @@ fn narrow(rows: &mut Vec<Row>) {
             }
         }
     }
+    let borders = near_borders().into_iter();
+    rows.extend(borders.map(|bits| Row::pair(Kind::Narrow, bits)));
 }
 
 /// Indices around each power of two and around the ties just above it.
