@@ -5,17 +5,17 @@ use Prim.Native.Nat.{ℕ, zero, suc, _+_, _-_, _*_, _/_, _%_, _^_, _≤_, _<_, m
 use native.Mathlib.Nat.{zero-add, lt-of-lt-of-le, div-lt-iff-lt-mul, mul-le-mul-left, min-eq-left, min-eq-right, le-of-lt}
 use native.Mathlib.Omega.{arith}
 use mathlib.Core.Bool.{Bool, true, false, not, cond}
-use lib.Dec.{T, leb, eqb, lit<}
+use lib.Dec.{T, eqb, lit<}
 use borrow.Author.Tests.{le-leb, lt-leb, eq-eqb, ne-eqb}
 use lib.Pow.{pow-pos, pow-mono}
-use lib.Ieee.{Float, nan, inf, fin, binary32, binary64, up, down, odd, round, fits, isNan, ofFields, ofBits, toBits}
+use lib.Ieee.{Float, nan, inf, fin, binary32, binary64, up, down, odd, round, fits, ofFields, ofBits, toBits}
 use lib.Ieee.Fits.{down-pos}
 use lib.Ieee.Bits.{ofBits-toBits, toBits-ofBits, nanBits-is}
 use lib.Ieee.Exact.{HasValue, odd-sign}
 use lib.Ieee.Scale.{round-same}
 use lib.Ieee.Nearest.{closest}
 use Rattle.model.specs.Numbers.{narrow}
-use Rattle.model.specs.Classes.{IsNaN, IsInfinite, IsFinite, IsZero, IsNormal, IsSubnormal}
+use Rattle.model.specs.Classes.{IsFinite, IsZero, IsNormal, IsSubnormal}
 use Rattle.model.specs.Narrowing.{value, roundedResult, isMinus, magnitudeBits, FallsIn, withSign, delivered}
 use Rattle.model.specs.ExactlyOne.{narrow-delivers}
 use Rattle.model.specs.Laws.Classes.{fields-finite, fields-normal, fields-subnormal}

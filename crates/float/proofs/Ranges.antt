@@ -1,15 +1,14 @@
 -- Which patterns fall in each case: the borders between the cases, of both signs. Assumes nothing.
-use mathlib.Core.Path.{_≡_, refl, sym, ap, _∙_}
+use mathlib.Core.Path.{_≡_}
 use mathlib.Core.Logic.{inl, inr}
-use Prim.Native.Nat.{ℕ, suc, _+_, _-_, _*_, _/_, _%_, _^_, _≤_, _<_}
-use native.Mathlib.Nat.{le-trans, le-of-eq, lt-of-lt-of-le, lt-of-le-of-lt, eq-or-lt-of-le, one-mul, mul-le-mul-left, mul-le-mul-right, div-lt-iff-lt-mul, le-div-iff-mul-le}
+use Prim.Native.Nat.{ℕ, _+_, _-_, _*_, _/_, _%_, _^_, _≤_, _<_}
+use native.Mathlib.Nat.{le-trans, le-of-eq, lt-of-lt-of-le, lt-of-le-of-lt, one-mul, mul-le-mul-left, mul-le-mul-right, div-lt-iff-lt-mul, le-div-iff-mul-le}
 use native.Mathlib.Omega.{arith}
 use lib.Dec.{lit<}
 use lib.Pow.{pow-pos, pow-mono}
 use lib.Ieee.Nearest.{closest, closest-mono}
 use Rattle.model.specs.Narrowing.{FallsIn}
 use Rattle.model.specs.declared.Narrowed.the-variants.{Nan, Infinite, TooLarge, Normal, Subnormal, Zero}
-use Rattle.float.specs.Narrowing.{RoundsTo}
 use Rattle.float.proofs.Rounding.{closest-le, closest-ge, le-or-lt}
 use Rattle.float.proofs.Narrowing.{exponentOf, fractionOf, rounds-normal, rounds-low, rounds-zero, falls-nan, falls-infinite, falls-too-large, falls-normal, falls-subnormal, falls-zero}
 

@@ -1,4 +1,4 @@
-// The two formats, by IEEE 754's parameters (3.3, table 3.5) and by what the fields of a pattern weigh (3.4).
+// The two formats, by IEEE 754's parameters (3.3) and by what the fields of a pattern weigh (3.4).
 
 // The digits of a significand, the leading one counted: p.
 pub const PRECISION_32: u64 = 24;

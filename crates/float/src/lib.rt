@@ -107,7 +107,7 @@ fn rounded_pattern(exponent: u64, fraction: u64) -> u64
     }
 }
 
-// A pattern's case. Patterns without their sign are in the order of their values (3.4), so the rounded result's is compared with the least of each class.
+// A pattern's case. Patterns without their sign are in the order of their values, so the rounded result's is compared with the least of each class.
 fn narrow_case(b: u64) -> Narrowed
     ensures { λ r. ⌜ FallsIn b r ⌝ }
 {

@@ -135,7 +135,8 @@ with-sign-back : (x : Float) (s : Bool) → T (fits binary32 x) → HasSign x s 
 with-sign-back x s f h =
     let b = toBits binary32 x in
     let e : ofBits binary32 b ≡ x = ofBits-toBits binary32 x f in
-    let own : HasSign x (leb (2 ^ 31) b) = subst (λ (z : Float). HasSign z (leb (2 ^ 31) b)) e (bits-have-sign binary32 b (subst (λ (z : Float). ¬ IsNaN z) (sym e) (signed-is-number x s h))) in
+    let number : ¬ IsNaN (ofBits binary32 b) = subst (λ (z : Float). ¬ IsNaN z) (sym e) (signed-is-number x s h) in
+    let own : HasSign x (leb (2 ^ 31) b) = subst (λ (z : Float). HasSign z (leb (2 ^ 31) b)) e (bits-have-sign binary32 b number) in
     ap (ofBits binary32) (sign-and-rest b s (one-sign x (leb (2 ^ 31) b) s own h) (toBits-lt binary32 x f)) ∙ e
 
 module _ (b : ℕ) where
@@ -175,7 +176,9 @@ module _ (b : ℕ) where
   falls-by-result h nan e n = absurd (n tt)
   falls-by-result h (inf s) e n = (h, subst IsInfinite (sym e) tt)
   falls-by-result h (fin s zero k) e n = (h, subst IsZero (sym e) refl)
-  falls-by-result h (fin s (suc m) k) e n = go (leb (down k) (suc m * up k * 2 ^ 126)) (leb-true (down k) (suc m * up k * 2 ^ 126)) (leb-false (down k) (suc m * up k * 2 ^ 126))
+  falls-by-result h (fin s (suc m) k) e n =
+      let a = suc m * up k * 2 ^ 126 in
+      go (leb (down k) a) (leb-true (down k) a) (leb-false (down k) a)
     where
       go : (t : Bool) → (t ≡ true → down k ≤ suc m * up k * 2 ^ 126) → (t ≡ false → suc m * up k * 2 ^ 126 < down k)
           → FallsIn b (cond t (Normal (magnitudeBits (fin s (suc m) k))) (Subnormal (magnitudeBits (fin s (suc m) k))))
@@ -187,7 +190,8 @@ module _ (b : ℕ) where
   falls (inf s) e = subst IsInfinite (sym e) tt
   falls (fin s m k) e =
       let h : IsFinite (value b) = subst IsFinite (sym e) tt in
-      falls-by-result h (narrow (fin s m k)) (ap narrow e) (subst (λ (z : Float). ¬ IsNaN z) (ap narrow e) (signed-is-number (roundedResult b) (isMinus b) (finite-keeps-sign b h)))
+      let number : ¬ IsNaN (roundedResult b) = signed-is-number (roundedResult b) (isMinus b) (finite-keeps-sign b h) in
+      falls-by-result h (narrow (fin s m k)) (ap narrow e) (subst (λ (z : Float). ¬ IsNaN z) (ap narrow e) number)
 
 nan-only : (x : Float) → IsNaN x → Nan ≡ caseOf x
 nan-only nan h = refl

@@ -10,7 +10,6 @@ use borrow.Author.Needs.{needs}
 use borrow.Author.Tests.{le-leb, lt-leb}
 use Rattle.model.specs.Numbers.{narrow}
 use Rattle.model.specs.Narrowing.{FallsIn, withSign}
-use Rattle.float.specs.Narrowing.{casePattern}
 use Rattle.float.proofs.Narrowing.{narrow-bits, pattern-below}
 use Rattle.float.proofs.narrow.Statement.{statement}
 use Rattle.float.proofs.narrow.Tie as tie

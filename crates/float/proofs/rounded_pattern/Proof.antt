@@ -3,7 +3,6 @@ use native.Mathlib.Omega.{arith}
 use Prim.Native.Nat.{_+_, _^_}
 use Rattle.float.proofs.Rounding.{closest-le}
 use Rattle.float.proofs.Narrowing.{rounds-normal, rounds-low, rounds-zero}
-use Rattle.float.specs.Narrowing.{RoundsTo}
 use borrow.Author.Needs.{needs}
 use Rattle.float.proofs.rounded_pattern.Statement.{statement}
 use Rattle.float.proofs.rounded_pattern.Tie as tie
