@@ -29,6 +29,15 @@ firstTooLarge = 0x47ef_ffff_f000_0000
 abbrev pub infinity : ℕ
 infinity = 0x7ff0_0000_0000_0000
 
+-- which patterns b, without their sign, fall in each case
+pub record Ranges (b : ℕ) : Type 0 where
+  pub zero : b % 2 ^ 63 < firstSubnormal → FallsIn b Zero
+  pub subnormal : firstSubnormal ≤ b % 2 ^ 63 → b % 2 ^ 63 < firstNormal → (n : ℕ) × FallsIn b (Subnormal n)
+  pub normal : firstNormal ≤ b % 2 ^ 63 → b % 2 ^ 63 < firstTooLarge → (n : ℕ) × FallsIn b (Normal n)
+  pub tooLarge : firstTooLarge ≤ b % 2 ^ 63 → b % 2 ^ 63 < infinity → FallsIn b TooLarge
+  pub infinite : b % 2 ^ 63 ≡ infinity → FallsIn b Infinite
+  pub notANumber : infinity < b % 2 ^ 63 → FallsIn b Nan
+
 -- ---- rounding keeps the order
 
 closest-up-to : (a c d : ℕ) → 0 < d → a ≤ c → closest a d ≤ closest c d
@@ -148,16 +157,6 @@ module _ (b : ℕ) where
 
   is-nan : infinity < b % 2 ^ 63 → FallsIn b Nan
   is-nan h = falls-nan b (omega arith) (λ (z : t ≡ 0). omega arith)
-
--- ---- all together
-
-pub record Ranges (b : ℕ) : Type 0 where
-  pub zero : b % 2 ^ 63 < firstSubnormal → FallsIn b Zero
-  pub subnormal : firstSubnormal ≤ b % 2 ^ 63 → b % 2 ^ 63 < firstNormal → (n : ℕ) × FallsIn b (Subnormal n)
-  pub normal : firstNormal ≤ b % 2 ^ 63 → b % 2 ^ 63 < firstTooLarge → (n : ℕ) × FallsIn b (Normal n)
-  pub tooLarge : firstTooLarge ≤ b % 2 ^ 63 → b % 2 ^ 63 < infinity → FallsIn b TooLarge
-  pub infinite : b % 2 ^ 63 ≡ infinity → FallsIn b Infinite
-  pub notANumber : infinity < b % 2 ^ 63 → FallsIn b Nan
 
 pub ranges : (b : ℕ) → Ranges b
 ranges b =

@@ -18,3 +18,4 @@ pub mod Reading
 pub mod Output
 pub mod Stores
 pub mod Classes
+pub mod Narrowing

@@ -1,19 +1,20 @@
 //! Where narrowing goes from one case of IEEE 754 to the next, worked out from the formats' values.
 
+use crate::generator::midpoint;
+
 const SIGN: u64 = 1 << 63;
 
 /// The first 64-bit pattern, without its sign, of each case behind zero's: subnormal, normal, too
 /// large, infinity, NaN.
 pub fn borders() -> [u64; 5] {
-    let two = |power| 2f64.powi(power);
     let infinity = f64::INFINITY.to_bits();
     [
         // Half of the least subnormal is a tie and goes to zero, the even one; what follows does not.
-        two(-150).to_bits() + 1,
+        midpoint(0x0000_0000).to_bits() + 1,
         // Half way from the greatest subnormal to the least normal, which is the even one.
-        (two(-126) - two(-150)).to_bits(),
+        midpoint(0x007f_ffff).to_bits(),
         // Half way from the greatest float to 2^128, which would be the even one.
-        (two(128) - two(103)).to_bits(),
+        midpoint(0x7f7f_ffff).to_bits(),
         infinity,
         infinity + 1,
     ]

@@ -92,16 +92,14 @@ fn narrow(rows: &mut Vec<Row>) {
         0x7ff8_0000_0000_0000,
         0x7fff_ffff_ffff_ffff,
     ]);
+    let mut patterns: BTreeSet<u64> = near_borders().into_iter().collect();
     for double in doubles {
         for sign in [0, 1 << 63] {
-            for step in [-1, 0, 1] {
-                let bits = double.wrapping_add_signed(step) ^ sign;
-                rows.push(Row::pair(Kind::Narrow, bits));
-            }
+            patterns.extend([-1, 0, 1].map(|step| double.wrapping_add_signed(step) ^ sign));
         }
     }
-    let borders = near_borders().into_iter();
-    rows.extend(borders.map(|bits| Row::pair(Kind::Narrow, bits)));
+    let patterns = patterns.into_iter();
+    rows.extend(patterns.map(|bits| Row::pair(Kind::Narrow, bits)));
 }
 
 /// Indices around each power of two and around the ties just above it.
