@@ -21,6 +21,8 @@ pub struct Size {
     /// Whether state 0 also has a transition, to state 1, whose condition holds.
     pub moves: bool,
     pub samples: usize,
+    /// Whether clips stop on their last pose. The Rust has no such clips.
+    pub stops: bool,
 }
 
 impl Size {
@@ -32,6 +34,7 @@ impl Size {
             waiting: 0,
             moves: false,
             samples: SAMPLES,
+            stops: false,
         }
     }
 }
@@ -59,6 +62,8 @@ pub struct State {
 
 pub struct Clip {
     pub rate: f32,
+    /// 0 loops, 1 stops.
+    pub ending: u16,
     /// Sample by sample, joint by joint: translation, scale, rotation w x y z.
     pub samples: Vec<Vec<[f32; 8]>>,
 }
@@ -129,6 +134,7 @@ impl Draft {
         let clips = size.nodes.div_ceil(2);
         let clip = |number| Clip {
             rate: 24.0 + number as f32,
+            ending: u16::from(size.stops),
             samples: (0..size.samples)
                 .map(|_| (0..size.joints).map(|_| random.pose()).collect())
                 .collect(),
@@ -164,7 +170,8 @@ impl Draft {
                 .iter()
                 .map(|parent| u16::from(parent.unwrap_or(255))),
         );
-        plan.extend(self.clips.iter().map(|clip| clip.samples.len() as u16));
+        let clips = self.clips.iter();
+        plan.extend(clips.flat_map(|clip| [clip.samples.len() as u16, clip.ending]));
         for state in &self.states {
             plan.push(state.nodes.len() as u16);
             plan.extend(state.nodes.iter().flat_map(words));
@@ -202,10 +209,7 @@ impl Draft {
             line(&mut text, format_args!("joint,{}", parent.unwrap_or(255)));
         }
         for clip in &self.clips {
-            line(
-                &mut text,
-                format_args!("clip,{},{:08x}", clip.samples.len(), clip.rate.to_bits()),
-            );
+            clip.write(&mut text);
         }
         for state in &self.states {
             line(
@@ -234,6 +238,16 @@ impl Draft {
             line(&mut text, format_args!("pose,{}", fields.join(",")));
         }
         text
+    }
+}
+
+impl Clip {
+    fn write(&self, text: &mut String) {
+        let (samples, rate) = (self.samples.len(), self.rate.to_bits());
+        line(
+            text,
+            format_args!("clip,{samples},{rate:08x},{}", self.ending),
+        );
     }
 }
 

@@ -2,7 +2,8 @@
 //!
 //!     bench [MILLISECONDS]      time for each row (default 900)
 //!
-//! Prints tables in markdown. Before and after a row is measured both must show the same bits.
+//! Prints tables in markdown. Before and after a row is measured both must show the same bits, where
+//! the Rust can play the figure.
 
 mod archive;
 mod draft;
@@ -143,6 +144,46 @@ fn growth(
     }
 }
 
+/// Nanoseconds of a frame of the archive alone, long after the clips' last samples.
+fn measure_late(size: Size, time: Duration) -> f64 {
+    const LATE: f64 = 100.0;
+    let mut archive = Archive::new(&Draft::new(size));
+    archive.play(LATE, EXT);
+    let shown = archive.output.clone();
+    archive.play(DELTA, EXT);
+    // Held clips show what they showed, looping ones go on.
+    assert_eq!(size.stops, archive.output == shown);
+    let mut timer = Timer::new(|| archive.play(DELTA, EXT));
+    rounds(time, || {
+        timer.batch(|| archive.play(black_box(DELTA), black_box(EXT)))
+    });
+    assert!(!size.stops || archive.output == shown);
+    timer.least
+}
+
+/// The Rust has no clips that stop, so this is the archive alone.
+fn endings(time: Duration) {
+    println!("\n### Clips past their last sample\n");
+    println!("| figure | looping ns | held ns |");
+    println!("|---|---:|---:|");
+    let sizes = [
+        ("1 joint, 1 clip", Size::new(1, 1)),
+        ("20 joints, 3 nodes", Size::new(20, 3)),
+        ("64 joints, 31 nodes", Size::new(64, 31)),
+    ];
+    for (name, size) in sizes {
+        let looping = measure_late(size, time);
+        let held = measure_late(
+            Size {
+                stops: true,
+                ..size
+            },
+            time,
+        );
+        println!("| {name} | {looping:.0} | {held:.0} |");
+    }
+}
+
 fn texts(time: Duration) {
     println!("\n### Reading text\n");
     println!("| bytes | ns | MB/s |");
@@ -222,5 +263,6 @@ fn main() {
     };
     sizes(time);
     growths(time);
+    endings(time);
     texts(time);
 }

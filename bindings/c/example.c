@@ -57,7 +57,9 @@ static const char *meaning(size_t number)
     static const char *const meanings[] = {
 #include "refusals.h"
     };
-    return number < sizeof meanings / sizeof meanings[0] ? meanings[number] : "unknown to this host";
+    /* The numbers that the library never gives have no meaning here. */
+    int known = number < sizeof meanings / sizeof meanings[0] && meanings[number] != NULL;
+    return known ? meanings[number] : "unknown to this host";
 }
 
 static int refuse(size_t number, size_t place)

@@ -45,6 +45,9 @@ extern "C" {
  *
  * Use a player with the figure that it was started with. Another figure does no harm, but takes the
  * numbers that it finds here for its own.
+ *
+ * No call begins a clip anew, also not one that stopped on its last pose. A host does so by storing the clip's
+ * time, clock + ext * speed, as its instance's start, and 0 as its offset.
  */
 typedef struct gentianlathe_player {
     double clock;      /* seconds played */
@@ -63,7 +66,8 @@ typedef char gentianlathe_player_has_952_bytes[sizeof(gentianlathe_player) == 95
 
 /*
  * An answer. Number 0 is the acceptance, and place is then 0. Any other number is a refusal; where more
- * than one applies, the first in this order of checks is told:
+ * than one applies, the first in the order of checks is told. A plan's words are checked front to back, and
+ * the first missing or wrong one decides (1 to 5 and 14); then 6, 7, 9, 10. A text: 11, then 12.
  *
  *   number and what is wrong, as docs/FORMAT.md has it
  *   1   the plan ends too early (place: its length)
@@ -71,6 +75,7 @@ typedef char gentianlathe_player_has_952_bytes[sizeof(gentianlathe_player) == 95
  *   3   a parent is neither 255 nor an earlier joint (place: that word)
  *   4   a node's word is wrong, or nothing uses a node (place: that word; K of the state)
  *   5   a transition's parameter, operator or target is wrong (place: that word)
+ *   14  a clip's ending is neither 0 (loop) nor 1 (stop) (place: that word)
  *   6   there are words after the last state (place: the first of them)
  *   7   there are not exactly as many numbers as the plan says (place: 0)
  *   8   a parameter number is 32 or above (place: 0)
@@ -97,7 +102,7 @@ typedef struct gentianlathe_text_answer {
 
 /*
  * Checks a figure and starts it: *player becomes a fresh player, in the plan's initial state.
- * Refused with 1 to 7; *player is then the blank one. What *player held before does not matter.
+ * Refused with 1 to 7 or 14; *player is then the blank one. What *player held before does not matter.
  */
 gentianlathe_answer gentianlathe_start(const uint16_t *plan, size_t plan_length,
                                        const float *numbers, size_t numbers_length,
@@ -121,8 +126,8 @@ gentianlathe_answer gentianlathe_set(gentianlathe_player *player, size_t paramet
  * with it (a transition begins or ends, clip instances are synchronised). Floats of output behind the last joint's
  * stay as they are.
  *
- * Refused with 1 to 7 for the figure, which is checked anew at each frame; with 9 for the player; with 10 for
- * an output shorter than gentianlathe_output_length(). Player and output then stay.
+ * Refused with 1 to 7 or 14 for the figure, which is checked anew at each frame; with 9 for the player; with 10
+ * for an output shorter than gentianlathe_output_length(). Player and output then stay.
  */
 gentianlathe_answer gentianlathe_frame(const uint16_t *plan, size_t plan_length,
                                        const float *numbers, size_t numbers_length,

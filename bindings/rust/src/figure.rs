@@ -22,12 +22,12 @@ impl Figure {
     ///
     /// # Errors
     ///
-    /// The start's refusal, with a number of 1 to 7.
+    /// The start's refusal, with a number of 1 to 7 or 14.
     ///
     /// ```
     /// use gentianlathe::{Figure, Refusal};
     ///
-    /// let plan = vec![1, 1, 0, 1, 0, 255, 1, 1, 0, 0, 0, 0, 0];
+    /// let plan = vec![1, 1, 0, 1, 0, 255, 1, 0, 1, 0, 0, 0, 0, 0]; // the clip has 1 sample and loops (0)
     /// let numbers = vec![1.0, 1.0, 2.0, 3.0, 1.0, 1.0, 0.0, 0.0, 0.0];
     /// assert!(Figure::new(plan.clone(), numbers).is_ok());
     /// assert_eq!(Figure::new(plan, vec![]).unwrap_err(), Refusal::Numbers);
@@ -49,7 +49,8 @@ impl Figure {
     ///
     /// # Errors
     ///
-    /// [`Refusal::Line`] where the text cannot be read, else the start's refusal, with a number of 2 to 5.
+    /// [`Refusal::Line`] where the text cannot be read, else the start's refusal, with a number of 2 to 5
+    /// or 14.
     ///
     /// ```
     /// let refusal = gentianlathe::Figure::from_text(b"figure,1,1,0,1\n").unwrap_err();

@@ -10,7 +10,7 @@
 //! # fn main() -> Result<(), gentianlathe::Refusal> {
 //! let text = b"figure,1,1,0,1,0\n\
 //!              joint,255\n\
-//!              clip,1,3f800000\n\
+//!              clip,1,3f800000,0\n\
 //!              state,1,0\n\
 //!              node,0,0,0,0\n\
 //!              pose,3f800000,40000000,40400000,3f800000,3f800000,00000000,00000000,00000000\n";

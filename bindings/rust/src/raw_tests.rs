@@ -5,7 +5,7 @@ use crate::player::Player;
 use crate::sys::{self, RawPlayer, RawTextAnswer};
 use std::mem::{offset_of, size_of};
 
-const PLAN: [u16; 13] = [1, 1, 0, 1, 0, 255, 1, 1, 0, 0, 0, 0, 0];
+const PLAN: [u16; 14] = [1, 1, 0, 1, 0, 255, 1, 0, 1, 0, 0, 0, 0, 0];
 const NUMBERS: [f32; 9] = [1.0, 1.0, 2.0, 3.0, 1.0, 1.0, 0.0, 0.0, 0.0];
 const FIGURE: Slices = Slices {
     plan: &PLAN,
@@ -87,9 +87,9 @@ fn a_refused_readings_counts_are_0() {
         words,
         numbers,
     };
-    assert_eq!(read(text, 13, 9), answer(0, 0, 13, 9));
-    assert_eq!(read(text, 12, 9), answer(12, 0, 0, 0));
-    assert_eq!(read(text, 13, 8), answer(12, 0, 0, 0));
-    assert_eq!(read(&text[..60], 13, 9), answer(11, 5, 0, 0));
+    assert_eq!(read(text, 14, 9), answer(0, 0, 14, 9));
+    assert_eq!(read(text, 13, 9), answer(12, 0, 0, 0));
+    assert_eq!(read(text, 14, 8), answer(12, 0, 0, 0));
+    assert_eq!(read(&text[..60], 14, 9), answer(11, 5, 0, 0));
     assert_eq!(read(b"", 0, 0), answer(11, 1, 0, 0));
 }

@@ -57,6 +57,11 @@ pub enum Refusal {
     },
     /// 12: the plan or the numbers do not fit into the slices that were lent for them.
     Slices,
+    /// 14: a clip's ending is neither 0 (loop) nor 1 (stop).
+    Ending {
+        /// That word; the clip's N is the word before it.
+        word: usize,
+    },
     /// A refusal that this version of the crate does not know.
     Other {
         /// Its number.
@@ -69,7 +74,7 @@ pub enum Refusal {
 impl Refusal {
     /// The refusal with this number and place; `None` for number 0, the acceptance.
     ///
-    /// A pair that document 01 does not have is [`Refusal::Other`], so that both can be read back.
+    /// A pair that documents 01 and 02 do not have is [`Refusal::Other`], so that both can be read back.
     pub const fn from_answer(number: usize, place: usize) -> Option<Refusal> {
         Some(match (number, place) {
             (0, _) => return None,
@@ -85,6 +90,7 @@ impl Refusal {
             (10, 0) => Refusal::Output,
             (11, line) => Refusal::Line { line },
             (12, 0) => Refusal::Slices,
+            (14, word) => Refusal::Ending { word },
             (number, place) => Refusal::Other { number, place },
         })
     }
@@ -104,6 +110,7 @@ impl Refusal {
             Refusal::Output => 10,
             Refusal::Line { .. } => 11,
             Refusal::Slices => 12,
+            Refusal::Ending { .. } => 14,
             Refusal::Other { number, .. } => number,
         }
     }
@@ -116,7 +123,8 @@ impl Refusal {
             | Refusal::Parent { word }
             | Refusal::Node { word }
             | Refusal::Transition { word }
-            | Refusal::WordsLeft { word } => word,
+            | Refusal::WordsLeft { word }
+            | Refusal::Ending { word } => word,
             Refusal::Line { line } => line,
             Refusal::Other { place, .. } => place,
             Refusal::Numbers
@@ -155,6 +163,7 @@ fn wrong_word(refusal: Refusal, word: usize) -> String {
             " is wrong in a node, or counts nodes of which one is not used".into()
         }
         Refusal::Transition { .. } => " is wrong in a transition".into(),
+        Refusal::Ending { .. } => ", a clip's ending, is neither 0 (loop) nor 1 (stop)".into(),
         _ => " is one too many: the last state ended before it".into(),
     }
 }
@@ -168,7 +177,8 @@ impl fmt::Display for Refusal {
             | Refusal::Parent { word }
             | Refusal::Node { word }
             | Refusal::Transition { word }
-            | Refusal::WordsLeft { word } => write!(f, "word {word} of the plan{}", wrong_word(*self, word)),
+            | Refusal::WordsLeft { word }
+            | Refusal::Ending { word } => write!(f, "word {word} of the plan{}", wrong_word(*self, word)),
             Refusal::Numbers => write!(f, "there are not exactly as many numbers as the plan says"),
             Refusal::Parameter => write!(f, "there is no such parameter: they are numbered 0 to 31"),
             Refusal::State => write!(f, "the figure lacks the state that the player is in or on its way to"),

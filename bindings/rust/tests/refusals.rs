@@ -58,7 +58,7 @@ fn two_a_count() {
             &format!("word {word} of the plan is out of range: the "),
         );
     }
-    for (word, value) in [(7, 0), (7, 4097), (8, 0), (8, 32), (21, 17)] {
+    for (word, value) in [(7, 0), (7, 4097), (9, 0), (9, 32), (22, 17)] {
         expect(
             with_word(word, value),
             2,
@@ -71,7 +71,7 @@ fn two_a_count() {
 /// Four states of 31 nodes have 64 clip nodes; a fifth state's only one is too many.
 #[test]
 fn two_a_65th_clip_node() {
-    let mut plan = vec![1, 1, 1, 5, 0, 255, 1];
+    let mut plan = vec![1, 1, 1, 5, 0, 255, 1, 0];
     for _ in 0..4 {
         plan.push(31);
         plan.extend([0, 0, 0, 0].repeat(16));
@@ -109,15 +109,15 @@ fn three_a_parent() {
 #[test]
 fn four_a_node() {
     let wrong = [
-        (9, 3),
-        (10, 1),
+        (10, 3),
         (11, 1),
         (12, 1),
-        (17, 9),
-        (18, 2),
-        (19, 0),
+        (13, 1),
+        (18, 9),
         (19, 2),
-        (20, 1),
+        (20, 0),
+        (20, 2),
+        (21, 1),
     ];
     for (word, value) in wrong {
         expect(
@@ -128,14 +128,14 @@ fn four_a_node() {
         );
     }
     let (mut plan, numbers) = two_states();
-    plan[17..21].fill(0);
+    plan[18..22].fill(0);
     let refusal = Figure::new(plan, numbers).expect_err("three clips");
-    expect(refusal, 4, 8, "counts nodes of which one is not used");
+    expect(refusal, 4, 9, "counts nodes of which one is not used");
 }
 
 #[test]
 fn five_a_transition() {
-    for (word, value) in [(22, 1), (23, 6), (24, 2)] {
+    for (word, value) in [(23, 1), (24, 6), (25, 2)] {
         expect(
             with_word(word, value),
             5,
@@ -289,11 +289,14 @@ fn eleven_a_line() {
         1,
         "a count above its limit",
     );
+    let old = String::from_utf8_lossy(PRINTED).replace("3f800000,0\nstate", "3f800000\nstate");
+    let refusal = Figure::from_text(old.as_bytes()).expect_err("a clip line without its ending");
+    expect(refusal, 11, 3, "line 3 of the text");
 }
 
 #[test]
 fn twelve_the_slices() {
-    for (words, numbers) in [(0, 0), (12, 9), (13, 8), (0, 9), (13, 0)] {
+    for (words, numbers) in [(0, 0), (13, 9), (14, 8), (0, 9), (14, 0)] {
         let mut plan = vec![7; words];
         let mut floats = vec![9.0; numbers];
         expect(
@@ -312,23 +315,43 @@ fn twelve_the_slices() {
     assert_eq!(
         written,
         Written {
-            words: 13,
+            words: 14,
             numbers: 9
         }
     );
     assert_eq!(
-        (&plan[13..], &floats[9..]),
-        (&[7; 7][..], &[9.0; 11][..]),
+        (&plan[14..], &floats[9..]),
+        (&[7; 6][..], &[9.0; 11][..]),
         "what follows is kept"
     );
 }
 
 #[test]
 fn sizes() {
-    assert_eq!(most_words(), 2869);
+    assert_eq!(most_words(), 2885);
     for length in [0, 8, 9, 65_536, usize::MAX] {
         assert_eq!(most_numbers(length), length / 9);
     }
+}
+
+/// Words are judged front to back: N before its ending, that before the next clip's N and before the nodes.
+#[test]
+fn fourteen_an_ending() {
+    for value in [2, 255, u16::MAX] {
+        let text = "word 8 of the plan, a clip's ending, is neither 0 (loop) nor 1 (stop)";
+        expect(with_word(8, value), 14, 8, text);
+    }
+    let refused = |words: [u16; 5]| {
+        let plan = [&[1, 2, 0, 1, 0, 255][..], &words, &[0, 0, 0, 0, 0]].concat();
+        let refusal = Figure::new(plan, vec![1.0; 18]).err();
+        refusal.map_or((0, 0), |refusal| (refusal.number(), refusal.place()))
+    };
+    assert_eq!(refused([1, 1, 1, 0, 1]), (0, 0), "both endings are taken");
+    assert_eq!(refused([0, 2, 1, 0, 1]), (2, 6));
+    assert_eq!(refused([1, 2, 0, 2, 0]), (14, 7));
+    assert_eq!(refused([1, 1, 0, 2, 0]), (2, 8));
+    assert_eq!(refused([1, 1, 1, 2, 0]), (14, 9));
+    assert_eq!(refused([1, 1, 1, 1, 0]), (2, 10));
 }
 
 /// Numbers that no call gives today are carried as they are.
@@ -362,7 +385,8 @@ fn rows_of_the_table() -> Vec<(usize, &'static str)> {
 #[test]
 fn as_many_as_the_table_has() {
     let rows = rows_of_the_table();
-    let numbers: Vec<usize> = rows.iter().map(|row| row.0).collect();
+    let mut numbers: Vec<usize> = rows.iter().map(|row| row.0).collect();
+    numbers.sort_unstable(); // the table's order is that of judging
     assert_eq!(numbers, (1..=rows.len()).collect::<Vec<_>>());
     for (number, from) in rows {
         let refusal = Refusal::from_answer(number, 0).expect("a refusal");

@@ -49,11 +49,11 @@ fn threads_share_a_figure() {
     }
 }
 
-/// 64 joints; two states, each with the deepest tree that 31 nodes can make; a transition between them.
+/// 64 joints; clips that loop and stop by turns; two states, each with the deepest tree that 31 nodes can make; a transition between them.
 fn deepest() -> Figure {
     let mut plan = vec![64, 16, 1, 2, 0, 255];
     plan.extend(0..63);
-    plan.extend([1; 16]);
+    (0..16).for_each(|clip| plan.extend([1, clip % 2]));
     for transition in [&[1, 0, 1, 1][..], &[0]] {
         plan.push(31);
         (0..16).for_each(|clip| plan.extend([0, clip, 0, 0]));

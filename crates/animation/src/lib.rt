@@ -11,8 +11,8 @@ ghost use Prim.Native.Nat.{suc, _+_, _%_, _<_, _≤_};
 ghost use lib.ListN.{length};
 ghost use Rattle.model.specs.Numbers.{_/₃₂_, indexFloat};
 ghost use Rattle.model.specs.Pose.{lerp as lerpPose};
-ghost use Rattle.model.specs.Plan.{maxClipNodes};
-ghost use Rattle.model.specs.Clips.{localTime, setPlaybackRate, instanceAt, setInstance};
+ghost use Rattle.model.specs.Plan.{maxSamples, maxClipNodes};
+ghost use Rattle.model.specs.Clips.{sampledPosition, localTime, setPlaybackRate, instanceAt, setInstance};
 ghost use Rattle.animation.specs.Sampling.{positionIn, poseFrom};
 
 // The samples on either side of a position, and how far it is past the first.
@@ -49,6 +49,21 @@ pub fn position_in(samples: usize, position: f32) -> Position
         second: second as usize,
         factor: position - float::index_to_float(floor),
     }
+}
+
+// Where a clip is sampled: a stopping one is held on its last sample. The ending is asked first, so that a looping clip
+// pays for that alone. The cast is exact.
+pub fn sampled_position(stopping: bool, samples: usize, position: f32) -> f32
+    requires { ⌜ (0 < samples) × (samples ≤ maxSamples) ⌝ }
+    ensures { λ r. ⌜ r ≡ sampledPosition stopping samples position ⌝ }
+{
+    if stopping {
+        let last = ((samples - 1) as u64) as f32;
+        if position >= last {
+            return last;
+        }
+    }
+    position
 }
 
 // A clip's length in seconds.

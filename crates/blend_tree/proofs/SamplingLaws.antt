@@ -8,8 +8,8 @@ use lib.ListN.{length}
 use lib.Ieee.{Float}
 use Rattle.model.specs.Numbers.{floorIndex, ceilingIndex}
 use Rattle.model.specs.Text.{maxWord}
-use Rattle.model.specs.Plan.{maxJoints, maxClips, maxSamples, jointCount, clipCount, stateCount, sampleCount, samplesBefore, posesAt, number, numberAt, numbersLength, samplePose}
-use Rattle.model.specs.Clips.{firstIndex, secondIndex, poseAt}
+use Rattle.model.specs.Plan.{maxJoints, maxClips, maxSamples, jointCount, clipCount, stateCount, sampleCount, isStopping, samplesBefore, posesAt, number, numberAt, numbersLength, samplePose}
+use Rattle.model.specs.Clips.{firstIndex, secondIndex, sampledPosition, poseAt}
 use Rattle.model.specs.Laws.Totals.{total-below, total-most}
 use Rattle.model.specs.Laws.Passed.{some-samples, few-samples, few-joints, few-clips, few-states, few-transitions-before, numbers-fit}
 use Rattle.layout.specs.declared.Layout.{Layout}
@@ -20,7 +20,7 @@ use Rattle.animation.specs.Sampling.{positionIn, poseFrom}
 use Rattle.blend_tree.specs.declared.sampling.Clip.{Clip}
 use Rattle.blend_tree.specs.declared.Joints.{Joints}
 use Rattle.blend_tree.specs.Blocks.{Playable, InBlock}
-use Rattle.blend_tree.specs.Sampling.{clipOf, samplesAt, poseStart, poseBetween, Sampled}
+use Rattle.blend_tree.specs.Sampling.{clipOf, Sized, samplesAt, poseStart, poseBetween, Sampled}
 
 -- ---- a clip
 
@@ -38,8 +38,8 @@ module _ {plan : List ℕ} {numbers : List Float} {layout : Layout} (ok : Playab
   unfolding samplesBefore
   few-before = omega (arith, clip-small, total-most (sampleCount plan) maxSamples c (λ k l. few-samples plan (length numbers) (ok .passed) k (omega (arith, inside))))
 
-  -- what `clip_samples` asks
-  pub clip-sized : {clip : Clip} → clip ≡ clipOf plan numbers c → (0 < clip .samples) × (clip .samples ≤ maxSamples) × (clip .before ≤ maxClips * maxSamples)
+  -- what `clip_position` and `clip_samples` ask
+  pub clip-sized : {clip : Clip} → clip ≡ clipOf plan numbers c → Sized clip
   unfolding clipOf
   clip-sized e = rw e (some, few, few-before)
 
@@ -106,7 +106,8 @@ row-inside {p = p} {joints = joints} {i = i} s block el eh h =
 
 -- ---- a joint's pose between them
 
-pub between-clip : {plan : List ℕ} {numbers : List Float} {layout : Layout} {p : Position} (c : ℕ) (position : Float) → Playable plan numbers layout → p ≡ samplesAt (clipOf plan numbers c) position
+pub between-clip : {plan : List ℕ} {numbers : List Float} {layout : Layout} {p : Position} (c : ℕ) (position : Float) → Playable plan numbers layout
+    → p ≡ samplesAt (clipOf plan numbers c) (sampledPosition (isStopping plan c) (sampleCount plan c) position)
     → (j : ℕ) → poseBetween numbers layout p j ≡ poseAt plan numbers c j position
 unfolding poseBetween poseAt clipOf samplesAt layoutOf poseFrom samplePose number numberAt
 between-clip c position ok found j = rw (ok .found, found)

@@ -1,5 +1,5 @@
 -- Samples counted over all clips, and the pose of a joint between two of them. Definitions only.
-use Prim.Native.Nat.{ℕ, _+_, _*_, _<_}
+use Prim.Native.Nat.{ℕ, _+_, _*_, _≤_, _<_}
 use mathlib.Core.Path.{_≡_}
 use mathlib.Core.List.{List}
 use lib.Ieee.{Float}
@@ -7,8 +7,8 @@ use Rattle.model.specs.declared.Pose.{Pose}
 use Rattle.model.specs.declared.ClipInstance.{ClipInstance}
 use Rattle.model.specs.Numbers.{_*₃₂_}
 use Rattle.model.specs.Pose.{lerp}
-use Rattle.model.specs.Plan.{clipCount, sampleCount, samplesBefore, number, Rate}
-use Rattle.model.specs.Clips.{localTime, firstIndex, secondIndex, factor}
+use Rattle.model.specs.Plan.{maxClips, maxSamples, clipCount, sampleCount, isStopping, samplesBefore, number, Rate}
+use Rattle.model.specs.Clips.{localTime, firstIndex, secondIndex, factor, sampledPosition}
 use Rattle.layout.specs.declared.Layout.{Layout}
 use Rattle.animation.specs.declared.Position.{Position}
 use Rattle.animation.specs.Sampling.{poseFrom}
@@ -16,11 +16,15 @@ use Rattle.blend_tree.specs.declared.sampling.Clip.{Clip}
 use Rattle.blend_tree.specs.Blocks.{Playable}
 
 unfoldable pub clipOf : List ℕ → List Float → ℕ → Clip
-clipOf plan numbers c = record { samples = sampleCount plan c; before = samplesBefore plan c; rate = number plan numbers (Rate c) }
+clipOf plan numbers c = record { samples = sampleCount plan c; before = samplesBefore plan c; stops = isStopping plan c; rate = number plan numbers (Rate c) }
 
--- where an instance of a clip is at a time
+-- it has samples, and so few that nothing overflows
+abbrev pub Sized : Clip → Type 0
+Sized clip = (0 < clip .samples) × (clip .samples ≤ maxSamples) × (clip .before ≤ maxClips * maxSamples)
+
+-- where an instance of a clip is sampled at a time
 abbrev pub positionAt : Clip → ClipInstance → Float → Float
-positionAt clip instance time = localTime instance time *₃₂ clip .rate
+positionAt clip instance time = sampledPosition (clip .stops) (clip .samples) (localTime instance time *₃₂ clip .rate)
 
 -- on either side of a position
 unfoldable pub samplesAt : Clip → Float → Position

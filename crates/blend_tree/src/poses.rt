@@ -3,6 +3,7 @@ use crate::Joints;
 use crate::SLOTS;
 use crate::StateAt;
 use crate::sampling::clip_at;
+use crate::sampling::clip_position;
 use crate::sampling::clip_samples;
 use animation::Position;
 use animation::instance_at;
@@ -110,7 +111,8 @@ fn node_poses(
     if words.kind == 0 {
         let instance = instance_at(instances, slots[node] as usize);
         let clip = clip_at(plan, numbers, state.layout, words.a);
-        let samples = clip_samples(clip, instance, state.time);
+        let position = clip_position(clip, instance, state.time);
+        let samples = clip_samples(clip, position);
         clip_poses(numbers, state.layout, samples, joints, block);
         return;
     }

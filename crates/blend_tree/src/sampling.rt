@@ -3,7 +3,9 @@ use animation::Position;
 use animation::local_time;
 use animation::pose_between;
 use animation::position_in;
+use animation::sampled_position;
 use layout::Layout;
+use layout::is_stopping;
 use layout::pose_at;
 use layout::rate;
 use layout::sample_count;
@@ -11,15 +13,16 @@ use layout::samples_before;
 use model::ClipInstance;
 use model::Pose;
 ghost use mathlib.Core.Path.{_≡_};
-ghost use Prim.Native.Nat.{_*_, _<_, _≤_};
-ghost use Rattle.model.specs.Plan.{maxClips, maxSamples, clipCount};
+ghost use Prim.Native.Nat.{_<_};
+ghost use Rattle.model.specs.Plan.{clipCount};
 ghost use Rattle.blend_tree.specs.Blocks.{Playable};
-ghost use Rattle.blend_tree.specs.Sampling.{clipOf, positionAt, samplesAt, poseBetween, Sampled};
+ghost use Rattle.blend_tree.specs.Sampling.{clipOf, Sized, positionAt, samplesAt, poseBetween, Sampled};
 
-// A clip of a plan: how many samples it has, how many the clips before it have, and its rate.
+// A clip of a plan: how many samples it has, how many the clips before it have, whether it stops, and its rate.
 pub struct Clip {
     pub samples: usize,
     pub before: usize,
+    pub stops: bool,
     pub rate: f32,
 }
 
@@ -31,27 +34,30 @@ pub fn clip_at(plan: &[u16], numbers: &[f32], layout: Layout, c: usize) -> Clip
     Clip {
         samples: sample_count(plan, layout, c),
         before: samples_before(plan, layout.joints, c),
+        stops: is_stopping(plan, layout, c),
         rate: rate(numbers, c),
     }
 }
 
-// The position that an instance of a clip has at a time.
+// Where an instance of a clip is sampled at a time.
 pub fn clip_position(clip: Clip, instance: ClipInstance, time: f32) -> f32
+    requires { ⌜ Sized clip ⌝ }
     ensures { λ r. ⌜ r ≡ positionAt clip instance time ⌝ }
 {
-    local_time(instance, time) * clip.rate
+    let position = local_time(instance, time) * clip.rate;
+    sampled_position(clip.stops, clip.samples, position)
 }
 
 // The samples on either side of that position, counted over all clips.
-pub fn clip_samples(clip: Clip, instance: ClipInstance, time: f32) -> Position
-    requires { ⌜ (0 < clip .samples) × (clip .samples ≤ maxSamples) × (clip .before ≤ maxClips * maxSamples) ⌝ }
-    ensures { λ r. ⌜ r ≡ samplesAt clip (positionAt clip instance time) ⌝ }
+pub fn clip_samples(clip: Clip, position: f32) -> Position
+    requires { ⌜ Sized clip ⌝ }
+    ensures { λ r. ⌜ r ≡ samplesAt clip position ⌝ }
 {
-    let position = position_in(clip.samples, clip_position(clip, instance, time));
+    let own = position_in(clip.samples, position);
     Position {
-        first: clip.before + position.first,
-        second: clip.before + position.second,
-        factor: position.factor,
+        first: clip.before + own.first,
+        second: clip.before + own.second,
+        factor: own.factor,
     }
 }
 

@@ -2,7 +2,7 @@
 use mathlib.Core.Path.{_≡_, refl, sym, _∙_, subst}
 use mathlib.Core.Logic.{inl, inr}
 use Prim.Native.Nat.{ℕ, zero, suc, _+_, _-_, _*_, _/_, _%_, _^_, _≤_, _<_, min, compare·suc-zero}
-use native.Mathlib.Nat.{zero-add, add-zero, mul-one, one-mul, mul-right-comm, mul-le-mul-right, mul-lt-mul-of-pos-right, mul-div-cancel, mod-one, div-add-mod', le-div-iff-mul-le, div-lt-iff-lt-mul, lt-of-lt-of-le, lt-of-not-le, not-le-of-lt, min-eq-left, le-of-lt, div-le-self}
+use native.Mathlib.Nat.{zero-add, add-zero, mul-one, one-mul, mul-right-comm, mul-le-mul-right, mul-lt-mul-of-pos-right, mod-one, div-add-mod', le-div-iff-mul-le, div-lt-iff-lt-mul, lt-of-lt-of-le, lt-of-not-le, not-le-of-lt, min-eq-left, le-of-lt, div-le-self}
 use native.Mathlib.Omega.{arith}
 use mathlib.Core.Bool.{Bool, true, false, _&&_, cond}
 use lib.Dec.{T, leb, ltb, eqb, lit<, lit≤, ltb→lt}
@@ -10,27 +10,14 @@ use borrow.Author.Tests.{ltb-true, ltb-false, lt-ltb, le-ltb}
 use lib.IntN.{ℤ, pos, negsuc}
 use lib.Pow.{pow-add, pow-pos, pow-mono, shr-lt}
 use lib.Count.{leadingZeros, leading-top}
-use lib.Ieee.{Float, nan, inf, fin, binary32, up, down, size, odd, lt, fits, ofInt, toUnsigned, ofBits}
+use lib.Ieee.{Float, nan, inf, fin, binary32, up, down, lt, fits, ofInt, toUnsigned, ofBits}
 use lib.Ieee.Fits.{down-pos, and-l, and-r}
-use lib.Ieee.Exact.{HasValue, odd-sign}
+use lib.Ieee.Exact.{HasValue}
 use lib.Ieee.Back.{round-whole}
 use lib.Ieee.Nearest.{closest}
-use Rattle.model.specs.Numbers.{whole, carry, floor, ceiling, floorIndex, ceilingIndex, indexFloat}
+use Rattle.model.specs.Numbers.{carry, floor, ceiling, floorIndex, ceilingIndex, indexFloat}
+use Rattle.model.specs.Laws.Wholes.{most, whole-index}
 use Rattle.float.proofs.Rounding.{le-or-lt, closest-le, round-bits}
-
--- the last index
-abbrev most : ℕ
-most = 0xffff_ffff_ffff_ffff
-
--- a whole number's index: 0 with a sign, and no more than the last
-whole-index : (s : Bool) (n : ℕ) → toUnsigned 64 (whole s n) ≡ cond s 0 (min n most)
-unfolding whole toUnsigned
-whole-index s n = go (odd (size n) s n 0 0) (odd-sign (size n) s n 0 0)
-  where
-    go : (v : Float) → HasValue v s (n * 1) 1 → toUnsigned 64 v ≡ cond s 0 (min n most)
-    go nan h = absurd h
-    go (inf t) h = absurd h
-    go (fin t m e) h = rw (h .0, simp mul-one at (h .1), mul-div-cancel n (down-pos e))
 
 -- a number from 0 on against a power of two: its whole part decides
 below-power : (m : ℕ) (e : ℤ) (j : ℕ) → lt (fin false m e) (fin false 1 (pos j)) ≡ true → m * up e / down e < 2 ^ j

@@ -15,7 +15,7 @@ use Rattle.model.specs.Plan.{maxNodes, word, jointCount, clipCount, stateCount,
 use Rattle.model.specs.Check.{checkState}
 use Rattle.model.specs.Laws.State.{node-there, transition-there, transition-count-there, few-nodes, few-transitions}
 use Rattle.model.specs.Laws.Trees.{clip-nodes-divided}
-use Rattle.model.specs.Laws.Passed.{state-passed, few-clips, few-states, few-transitions-before, few-clip-nodes-before}
+use Rattle.model.specs.Laws.Passed.{state-passed, few-joints, few-clips, few-states, few-transitions-before, few-clip-nodes-before}
 use Rattle.layout.specs.declared.Layout.{Layout}
 use Rattle.layout.specs.declared.StateLayout.{StateLayout}
 use Rattle.layout.specs.Layout.{Passes, InPlan, layoutOf, stateLayout}
@@ -44,9 +44,19 @@ module _ (plan : List ℕ) {l : Layout} (e : l ≡ layoutOf plan) where
   unfolding layoutOf
   joints-found = ap (λ l. l .joints) e
 
+  pub clips-found : l .clips ≡ clipCount plan
+  unfolding layoutOf
+  clips-found = ap (λ l. l .clips) e
+
   pub states-found : l .states ≡ stateCount plan
   unfolding layoutOf
   states-found = ap (λ l. l .states) e
+
+-- ---- a clip: its joints and number are so small that nothing overflows
+
+pub clip-small : {plan : List ℕ} {l : Layout} {c : ℕ} → Passes plan → l ≡ layoutOf plan → c < clipCount plan → (l .joints ≤ maxWord) × (c ≤ maxWord)
+clip-small {plan} ok e h =
+    (omega (arith, joints-found plan e, few-joints plan (ok .numbers) (ok .passed)), omega (arith, few-clips plan (ok .numbers) (ok .passed)))
 
 -- ---- a state
 

@@ -14,7 +14,8 @@ ghost use lib.ListN.{length, getD};
 ghost use lib.Ieee.{nan};
 ghost use Rattle.model.specs.Text.{maxWord};
 ghost use Rattle.model.specs.Plan.{maxJoints, maxClips, maxSamples, root, word, jointCount, clipCount, stateCount};
-ghost use Rattle.model.specs.Plan.{parentAt, parent, sampleCountAt, sampleCount, samplesBefore, number, Rate};
+ghost use Rattle.model.specs.Plan.{parentAt, parent, sampleCountAt, sampleCount, isStopping};
+ghost use Rattle.model.specs.Plan.{samplesBefore, number, Rate};
 ghost use Rattle.layout.specs.Layout.{layoutOf, stateLayout, nodeOf, conditionOf, numbersOf};
 ghost use Rattle.layout.specs.Layout.{Passes, InPlan, HasTransition};
 
@@ -31,7 +32,9 @@ pub const INITIAL_STATE_AT: usize = 4;
 
 pub const PARENTS_AT: usize = 5;
 
-// Of each node and each transition: words, and numbers.
+// Of each clip, node and transition: words, and numbers.
+pub const CLIP_WORDS: usize = 2;
+
 pub const NODE_WORDS: usize = 4;
 
 pub const TRANSITION_WORDS: usize = 3;
@@ -41,7 +44,7 @@ pub const TRANSITION_NUMBERS: usize = 2;
 // Of the longest plan that can pass. A state has two counts before its nodes and its transitions.
 pub const MAX_PLAN: usize = PARENTS_AT
     + MAX_JOINTS
-    + MAX_CLIPS
+    + CLIP_WORDS * MAX_CLIPS
     + MAX_STATES * (2 + NODE_WORDS * MAX_NODES + TRANSITION_WORDS * MAX_TRANSITIONS);
 
 // What the check finds in a plan that passes.
@@ -124,7 +127,7 @@ pub fn sample_count_at(joints: usize, c: usize) -> usize
     requires { ⌜ (joints ≤ maxWord) × (c ≤ maxWord) ⌝ }
     ensures { λ r. ⌜ ((plan : List ℕ) → joints ≡ jointCount plan → r ≡ sampleCountAt plan c) ⌝ }
 {
-    PARENTS_AT + joints + c
+    PARENTS_AT + joints + CLIP_WORDS * c
 }
 
 // Of a clip that the plan has.
@@ -135,15 +138,29 @@ pub fn sample_count(plan: &[u16], layout: Layout, c: usize) -> usize
     word_there(plan, sample_count_at(layout.joints, c))
 }
 
-// How many samples the clips before c have. The check asks too, before it knows that the plan passes.
+// Whether a clip that the plan has stops on its last sample. Its ending stands behind its sample count.
+pub fn is_stopping(plan: &[u16], layout: Layout, c: usize) -> bool
+    requires { ⌜ Passes (now plan) × (layout ≡ layoutOf (now plan)) × (c < clipCount (now plan)) ⌝ }
+    ensures { λ r. ⌜ r ≡ isStopping (now (plan .entry)) c ⌝ }
+{
+    word_there(plan, sample_count_at(layout.joints, c) + 1) == 1
+}
+
+// How many samples the clips before c have, whose words are there. The check asks too, before it knows that the plan
+// passes.
 pub fn samples_before(plan: &[u16], joints: usize, c: usize) -> usize
-    requires { ⌜ (joints ≡ jointCount (now plan)) × (joints ≤ maxWord) × (c ≤ maxWord) ⌝ }
+    requires { ⌜
+        (joints ≡ jointCount (now plan))
+        × (joints ≤ maxWord)
+        × (c ≤ maxWord)
+        × (sampleCountAt (now plan) c ≤ length (now plan))
+        ⌝ }
     ensures { λ r. ⌜ (r ≡ samplesBefore (now (plan .entry)) c) × (r ≤ c * maxWord) ⌝ }
 {
     let mut sum = 0;
     let mut k = 0;
     while k < c {
-        sum += word(plan, sample_count_at(joints, k));
+        sum += word_there(plan, sample_count_at(joints, k));
         k += 1;
     }
     sum

@@ -1,16 +1,12 @@
 -- Document 01, "Bench sheet": the cases a to l over the definitions, as one table; then its unmarked cases, the printed example and its traps.
 use Prim.Native.Nat.{ℕ, zero, suc, _+_, _*_, _<_}
-use native.Mathlib.Nat.{le-refl, le-of-eq, lt-irrefl, lt-of-lt-of-le, zero-lt-suc, mul-pos, zero-mul, sub-self}
-use mathlib.Core.Path.{_≡_, refl, sym, ap, _∙_}
-use mathlib.Core.Bool.{Bool, true, false, not}
+use mathlib.Core.Path.{_≡_, refl, ap}
+use mathlib.Core.Bool.{Bool, true, false}
 use mathlib.Core.List.{List, [], _∷_, _++_}
-use borrow.Author.Tests.{le-ltb}
 use lib.ListN.{replicate}
 use lib.IntN.{ℤ}
-use lib.Dec.{lit<}
-use lib.Ieee.{Float, nan, inf, fin, binary32, binary64, up, down, sum, round, sub, add, div, neg, toBits, ofBits}
-use lib.Ieee.Fits.{up-pos, down-pos}
-use lib.Ieee.Exact.{HasValue, round-exact}
+use lib.Ieee.{Float, nan, inf, fin, binary32, binary64, sub, add, div, neg, toBits, ofBits}
+use lib.Ieee.Exact.{HasValue}
 use Rattle.model.specs.declared.Pose.{Pose}
 use Rattle.model.specs.declared.Player.{Player}
 use Rattle.model.specs.declared.ClipInstance.{ClipInstance}
@@ -25,6 +21,7 @@ use Rattle.model.specs.Tree.{targetLength, synchronizedRate}
 use Rattle.model.specs.Check.{check}
 use Rattle.model.specs.Controller.{withState, withTransition, nowAt, elapsed, isEnded, stepFrom, transitionFactor}
 use Rattle.model.specs.Run.{startVerdict, startPlayer, Frame, chosenFloats}
+use Rattle.model.specs.Laws.Wholes.{not-zero, denominator-pos, less-itself}
 use Rattle.model.specs.Laws.Opened.{check-opened, floats-opened, all-opened}
 
 -- ---- floats by their bits
@@ -84,9 +81,9 @@ bench =
 
 -- ---- unmarked: J 64 passes, 65 is refused
 
--- J roots, one clip of one sample, one state of one node; it wants 1 + 8 × J numbers
+-- J roots, one looping clip of one sample, one state of one node; it wants 1 + 8 × J numbers
 unfoldable pub jointsPlan : ℕ → List ℕ
-jointsPlan n = n ∷ 1 ∷ 0 ∷ 1 ∷ 0 ∷ replicate n 255 ++ 1 ∷ 1 ∷ 0 ∷ 0 ∷ 0 ∷ 0 ∷ 0 ∷ []
+jointsPlan n = n ∷ 1 ∷ 0 ∷ 1 ∷ 0 ∷ replicate n 255 ++ 1 ∷ 0 ∷ 1 ∷ 0 ∷ 0 ∷ 0 ∷ 0 ∷ 0 ∷ []
 
 pub joints-64 : check (jointsPlan 64) (1 + 8 * 64) ≡ accepted
 unfolding check-opened jointsPlan
@@ -103,19 +100,10 @@ unfolding div ofBits
 zero-by-zero c nan p h = absurd h
 zero-by-zero c (inf t) p h = absurd h
 zero-by-zero c (fin t zero e) p h = refl
-zero-by-zero c (fin t (suc m) e) p h = absurd (lt-irrefl 0 (lt-of-lt-of-le (mul-pos (mul-pos (zero-lt-suc m) (up-pos e)) p) (le-of-eq (h .1 ∙ zero-mul (down e)))))
-
-difference : (s : Bool) (a c : ℕ) → sum binary64 s a (not s) a c ≡ round binary64 false 0 c
-unfolding sum
-difference true a c = rw (le-ltb a a (le-refl a), sub-self a)
-difference false a c = rw (le-ltb a a (le-refl a), sub-self a)
+zero-by-zero c (fin t (suc m) e) p h = absurd (not-zero c m e p (h .1))
 
 self-difference : (s : Bool) (m : ℕ) (e : ℤ) → div binary64 (fin s m e -₆₄ fin s m e) 0f ≡ nan
-unfolding sub add neg
-self-difference s m e =
-    let c = down e * down e in
-    let p : 0 < c = mul-pos (down-pos e) (down-pos e) in
-    rw (difference s (m * up e * down e) c) (zero-by-zero c (round binary64 false 0 c) p (round-exact binary64 false 0 c 0 0 p (lit< tt) (lit< tt) (sym (zero-mul c))))
+self-difference s m e = zero-by-zero _ _ (denominator-pos e) (less-itself binary64 s m e)
 
 pub duration-0 : (now : Float) → transitionFactor now now 0f ≡ nan
 unfolding transitionFactor narrow div sub add neg
@@ -127,7 +115,7 @@ duration-0 (fin s m e) = ap narrow (self-difference s m e)
 -- ---- the printed example
 
 unfoldable pub printedPlan : List ℕ
-printedPlan = 1 ∷ 1 ∷ 0 ∷ 1 ∷ 0 ∷ 255 ∷ 1 ∷ 1 ∷ 0 ∷ 0 ∷ 0 ∷ 0 ∷ 0 ∷ []
+printedPlan = 1 ∷ 1 ∷ 0 ∷ 1 ∷ 0 ∷ 255 ∷ 1 ∷ 0 ∷ 1 ∷ 0 ∷ 0 ∷ 0 ∷ 0 ∷ 0 ∷ []
 
 unfoldable pub printedNumbers : List Float
 printedNumbers = 1f ∷ 1f ∷ 2f ∷ 3f ∷ 1f ∷ 1f ∷ 0f ∷ 0f ∷ 0f ∷ []

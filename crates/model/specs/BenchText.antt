@@ -28,7 +28,7 @@ unfoldable pub exampleText : List ℕ
 exampleText =
     bytes "figure,1,1,0,1,0\n" ++
     bytes "joint,255\n" ++
-    bytes "clip,1,3f800000\n" ++
+    bytes "clip,1,3f800000,0\n" ++
     bytes "state,1,0\n" ++
     bytes "node,0,0,0,0\n" ++
     bytes "pose,3f800000,40000000,40400000,3f800000,3f800000,00000000,00000000,00000000\n"

@@ -1,11 +1,11 @@
--- Document 01, "Start": refusals 1 to 7, as a row of checks in the order of the words. Definitions only.
+-- Document 01, "Start": refusals 1 to 7, and 14 (document 02, Card 1), as a row of checks in the order of the words. Definitions only.
 use Prim.Native.Nat.{ℕ, zero, suc, _-_}
 use mathlib.Core.Bool.{Bool, false, cond, not, _&&_, _||_}
 use mathlib.Core.List.{List}
 use lib.ListN.{length}
 use lib.Dec.{leb, ltb, eqb}
 use Rattle.model.specs.Answers.{Verdict, _then_, each, require}
-use Rattle.model.specs.Plan.{maxJoints, maxClips, maxParameters, maxStates, maxSamples, maxNodes, maxTransitions, maxClipNodes, jointCountAt, clipCountAt, parameterCountAt, stateCountAt, initialStateAt, parentAt, jointCount, clipCount, parameterCount, stateCount, initialState, parent, isRoot, sampleCountAt, sampleCount, stateAt, nodeCount, kindAt, inputAAt, inputBAt, nodeParameterAt, kind, isClip, inputA, inputB, nodeParameter, transitionCountAt, transitionCount, conditionParameterAt, operatorAt, targetStateAt, conditionParameter, operator, targetState, planEnd, clipNode, numbersLength}
+use Rattle.model.specs.Plan.{maxJoints, maxClips, maxParameters, maxStates, maxSamples, maxNodes, maxTransitions, maxClipNodes, jointCountAt, clipCountAt, parameterCountAt, stateCountAt, initialStateAt, parentAt, jointCount, clipCount, parameterCount, stateCount, initialState, parent, isRoot, sampleCountAt, sampleCount, endingAt, ending, stateAt, nodeCount, kindAt, inputAAt, inputBAt, nodeParameterAt, kind, isClip, inputA, inputB, nodeParameter, transitionCountAt, transitionCount, conditionParameterAt, operatorAt, targetStateAt, conditionParameter, operator, targetState, planEnd, clipNode, numbersLength}
 
 -- refusal 1 where the plan has no such word, else the number given where the word fails its test
 unfoldable pub wordIs : List ℕ → ℕ → ℕ → Bool → Verdict
@@ -25,8 +25,11 @@ checkHeader plan =
 unfoldable pub checkParent : List ℕ → ℕ → Verdict
 checkParent plan j = wordIs plan 3 (parentAt j) (isRoot plan j || ltb (parent plan j) j)
 
-unfoldable pub checkSampleCount : List ℕ → ℕ → Verdict
-checkSampleCount plan c = wordIs plan 2 (sampleCountAt plan c) (within 1 (sampleCount plan c) maxSamples)
+-- a clip: refusal 2 for its N, then 14 'for another ending word'
+unfoldable pub checkClip : List ℕ → ℕ → Verdict
+checkClip plan c =
+    wordIs plan 2 (sampleCountAt plan c) (within 1 (sampleCount plan c) maxSamples) then
+    wordIs plan 14 (endingAt plan c) (within 0 (ending plan c) 1)
 
 -- whether one of the first i nodes has node k for an input
 unfoldable pub used : List ℕ → ℕ → ℕ → ℕ → Bool
@@ -66,7 +69,7 @@ unfoldable pub check : List ℕ → ℕ → Verdict
 check plan numbersGiven =
     checkHeader plan then
     each (jointCount plan) (checkParent plan) then
-    each (clipCount plan) (checkSampleCount plan) then
+    each (clipCount plan) (checkClip plan) then
     each (stateCount plan) (checkState plan) then
     require (leb (length plan) (planEnd plan)) 6 (planEnd plan) then
     require (eqb numbersGiven (numbersLength plan)) 7 0

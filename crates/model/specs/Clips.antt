@@ -1,14 +1,14 @@
--- Document 01, "Clips (animation.rs)". Definitions only.
-use Prim.Native.Nat.{ℕ, zero, suc, _+_, _*_, _%_}
-use mathlib.Core.Bool.{cond}
+-- Document 01, "Clips (animation.rs)", with document 02's Card 1: clips that stop. Definitions only.
+use Prim.Native.Nat.{ℕ, zero, suc, _+_, _-_, _*_, _%_}
+use mathlib.Core.Bool.{Bool, cond, _&&_}
 use mathlib.Core.List.{List, [], _∷_}
 use lib.ListN.{getD, set}
-use lib.Ieee.{Float, nan, ne}
+use lib.Ieee.{Float, nan, ne, le}
 use Rattle.model.specs.declared.Pose.{Pose}
 use Rattle.model.specs.declared.ClipInstance.{ClipInstance}
 use Rattle.model.specs.Numbers.{_+₃₂_, _-₃₂_, _*₃₂_, _/₃₂_, 0f, 1f, floorIndex, ceilingIndex, indexFloat}
 use Rattle.model.specs.Pose.{lerp}
-use Rattle.model.specs.Plan.{sampleCount, number, Rate, samplePose}
+use Rattle.model.specs.Plan.{sampleCount, isStopping, number, Rate, samplePose}
 
 -- ---- a position
 
@@ -22,6 +22,10 @@ secondIndex n position = ceilingIndex position % n
 -- 'factor': how far past its floor, before any wrap round
 unfoldable pub factor : Float → Float
 factor position = position -₃₂ indexFloat (floorIndex position)
+
+-- Card 1: 'a stopping clip at position N − 1 or above is sampled as at N − 1'. A NaN is not above
+unfoldable pub sampledPosition : Bool → ℕ → Float → Float
+sampledPosition stopping n position = cond (stopping && le (indexFloat (n - 1)) position) (indexFloat (n - 1)) position
 
 -- ---- a clip instance
 
@@ -58,7 +62,8 @@ module _ (plan : List ℕ) (numbers : List Float) where
   unfoldable pub poseAt : ℕ → ℕ → Float → Pose
   poseAt c j position =
       let n = sampleCount plan c in
-      lerp (samplePose plan numbers c (firstIndex n position) j) (samplePose plan numbers c (secondIndex n position) j) (factor position)
+      let at = sampledPosition (isStopping plan c) n position in
+      lerp (samplePose plan numbers c (firstIndex n at) j) (samplePose plan numbers c (secondIndex n at) j) (factor at)
 
   -- at a 'local time'
   unfoldable pub clipPose : ℕ → ℕ → Float → Pose

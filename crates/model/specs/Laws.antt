@@ -18,4 +18,5 @@ pub mod Reading
 pub mod Output
 pub mod Stores
 pub mod Classes
+pub mod Wholes
 pub mod Narrowing

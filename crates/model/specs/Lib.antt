@@ -23,5 +23,6 @@ pub mod Laws
 pub mod Bench
 pub mod BenchText
 pub mod Wrap
+pub mod Stopping
 pub mod ExactlyOne
 pub mod Unused

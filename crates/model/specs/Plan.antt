@@ -40,7 +40,7 @@ maxClipNodes = 64
 abbrev pub root : ℕ
 root = 255
 
--- ---- the words: header, parents, sample counts
+-- ---- the words: header, parents, sample counts with their endings
 
 -- word i; 0 where there is none
 unfoldable pub word : List ℕ → ℕ → ℕ
@@ -87,12 +87,27 @@ parent plan j = word plan (parentAt j)
 unfoldable pub isRoot : List ℕ → ℕ → Bool
 isRoot plan j = eqb (parent plan j) root
 
+-- of a clip: N and its ending
+abbrev pub clipWords : ℕ
+clipWords = 2
+
 unfoldable pub sampleCountAt : List ℕ → ℕ → ℕ
-sampleCountAt plan c = parentAt (jointCount plan) + c
+sampleCountAt plan c = parentAt (jointCount plan) + clipWords * c
 
 -- N of clip c
 unfoldable pub sampleCount : List ℕ → ℕ → ℕ
 sampleCount plan c = word plan (sampleCountAt plan c)
+
+-- Card 1, 'each N is followed by an ending word'
+unfoldable pub endingAt : List ℕ → ℕ → ℕ
+endingAt plan c = sampleCountAt plan c + 1
+
+unfoldable pub ending : List ℕ → ℕ → ℕ
+ending plan c = word plan (endingAt plan c)
+
+-- ending 0 is 'loop', 1 'stop'
+unfoldable pub isStopping : List ℕ → ℕ → Bool
+isStopping plan c = eqb (ending plan c) 1
 
 -- ---- the words of a state: K, its nodes, T, its transitions
 
@@ -173,9 +188,12 @@ targetState plan s t = word plan (targetStateAt plan s t)
 unfoldable pub planEnd : List ℕ → ℕ
 planEnd plan = stateAt plan (stateCount plan)
 
--- the words of a plan with the most joints, clips, states, nodes and transitions
+-- the words before the states, and all words, of a plan with the most joints, clips, states, nodes and transitions
+abbrev pub maxStatesAt : ℕ
+maxStatesAt = parentAt maxJoints + clipWords * maxClips
+
 abbrev pub maxPlan : ℕ
-maxPlan = parentAt maxJoints + maxClips + maxStates * (2 + 4 * maxNodes + 3 * maxTransitions)
+maxPlan = maxStatesAt + maxStates * (2 + 4 * maxNodes + 3 * maxTransitions)
 
 -- ---- counts over states and clips
 

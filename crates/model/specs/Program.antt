@@ -13,7 +13,7 @@ use Rattle.model.specs.declared.FrameKind.the-variants.{Ordinary}
 use Rattle.model.specs.Numbers.{0f}
 use Rattle.model.specs.Rotations.{identityMatrix, floats}
 use Rattle.model.specs.Answers.{Verdict, accepted, refused}
-use Rattle.model.specs.Plan.{jointCount, clipCount, stateCount, nodeCount, transitionCount, jointCountAt, parentAt, sampleCountAt, kindAt, conditionParameterAt, numberAt, Rate, Value, posesAt, samplesBefore}
+use Rattle.model.specs.Plan.{jointCount, clipCount, stateCount, nodeCount, transitionCount, clipWords, jointCountAt, parentAt, sampleCountAt, kindAt, conditionParameterAt, numberAt, Rate, Value, posesAt, samplesBefore}
 use Rattle.model.specs.Controller.{fresh}
 use Rattle.model.specs.Run.{startVerdict, frameMatrices}
 use Rattle.model.specs.Text.{front, lineFeed, comma, name, forms, Reading, bad, got, readFigure, floatsOf}
@@ -118,6 +118,6 @@ module _ (plan bits : List ℕ) where
   figureText =
       lineText Figure (part plan jointCountAt 5) [] ++
       joined (jointCount plan) (λ j. lineText Joint (part plan (parentAt j) 1) []) ++
-      joined (clipCount plan) (λ c. lineText Clip (part plan (sampleCountAt plan c) 1) (part bits (numberAt plan (Rate c)) 1)) ++
+      joined (clipCount plan) (λ c. lineText Clip (part plan (sampleCountAt plan c) clipWords) (part bits (numberAt plan (Rate c)) 1)) ++
       joined (stateCount plan) stateText ++
       joined (samplesBefore plan (clipCount plan) * jointCount plan) (λ m. lineText Pose [] (part bits (posesAt plan + 8 * m) 8))

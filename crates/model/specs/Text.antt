@@ -3,7 +3,7 @@
 use Prim.Native.Nat.{ℕ, zero, suc, _+_, _-_, _*_}
 use mathlib.Core.Bool.{Bool, true, cond, not, _&&_, _||_}
 use mathlib.Core.List.{List, [], _∷_, _++_, map}
-use lib.ListN.{length, getD, take, drop}
+use lib.ListN.{length, getD, drop}
 use lib.Dec.{leb, ltb, eqb}
 use lib.Ieee.{Float, binary32, ofBits}
 use Rattle.model.specs.declared.LineKind.{LineKind}
@@ -12,7 +12,7 @@ use Rattle.model.specs.declared.FieldForm.{FieldForm}
 use Rattle.model.specs.declared.FieldForm.the-variants.{Decimal, Bits}
 use Rattle.model.specs.declared.TextAnswer.{TextAnswer}
 use Rattle.model.specs.declared.TextAnswer.the-variants.{Accepted, Refused}
-use Rattle.model.specs.Plan.{maxJoints, maxClips, maxParameters, maxStates, maxSamples, maxNodes, maxTransitions, jointCount, clipCount, stateCount, total}
+use Rattle.model.specs.Plan.{maxJoints, maxClips, maxParameters, maxStates, maxSamples, maxNodes, maxTransitions, clipWords, jointCount, clipCount, stateCount, total}
 use Rattle.model.specs.Check.{within}
 
 -- ---- bytes
@@ -80,7 +80,7 @@ name Pose = 112 ∷ 111 ∷ 115 ∷ 101 ∷ []
 unfoldable pub forms : LineKind → List FieldForm
 forms Figure = Decimal maxJoints ∷ Decimal maxClips ∷ Decimal maxParameters ∷ Decimal maxStates ∷ Decimal maxWord ∷ []
 forms Joint = Decimal maxWord ∷ []
-forms Clip = Decimal maxSamples ∷ Bits ∷ []
+forms Clip = Decimal maxSamples ∷ Bits ∷ Decimal maxWord ∷ []
 forms State = Decimal maxNodes ∷ Decimal maxTransitions ∷ []
 forms Node = Decimal maxWord ∷ Decimal maxWord ∷ Decimal maxWord ∷ Decimal maxWord ∷ []
 forms Go = Decimal maxWord ∷ Decimal maxWord ∷ Decimal maxWord ∷ Bits ∷ Bits ∷ []
@@ -173,18 +173,22 @@ readState s = fromState (readLine State s)
 unfoldable pub readEnd : List ℕ → Reading
 readEnd s = cond (eqb (length s) 0) (got [] [] [] 0) (bad 1)
 
+-- N of the n clips with these words, added up
+abbrev pub samplesIn : List ℕ → ℕ → ℕ
+samplesIn clips n = total (λ c. getD clips (clipWords * c) 0) n
+
 -- one pose a clip, sample and joint
 abbrev pub poseCount : List ℕ → List ℕ → ℕ
-poseCount header samples = total (λ c. getD samples c 0) (clipCount header) * jointCount header
+poseCount header clips = samplesIn clips (clipCount header) * jointCount header
 
 -- a whole text
 unfoldable pub readFigure : List ℕ → Reading
 readFigure text =
     andThen (readLine Figure text) (λ header s₁.
     andThen (times (jointCount header) (readLine Joint) s₁) (λ _ s₂.
-    andThen (times (clipCount header) (readLine Clip) s₂) (λ samples s₃.
+    andThen (times (clipCount header) (readLine Clip) s₂) (λ clips s₃.
     andThen (times (stateCount header) readState s₃) (λ _ s₄.
-    andThen (times (poseCount header samples) (readLine Pose) s₄) (λ _.
+    andThen (times (poseCount header clips) (readLine Pose) s₄) (λ _.
     readEnd)))))
 
 -- ---- 'Reading text': the answer, and both slices afterwards

@@ -12,9 +12,9 @@ use Rattle.model.specs.Check.{check}
 use Rattle.model.specs.Unseen.{Reachable, initial, target, Played, plays, Read, byNode, byCondition, Unseen}
 use Rattle.model.specs.Laws.Opened.{check-opened}
 
--- two roots, two clips of one sample, one parameter, two states. State 0 plays clip 0 and stays; state 1 plays clip 1, and leaves by parameter 0
+-- two roots, two clips of one sample, the first of which stops, one parameter, two states. State 0 plays clip 0 and stays; state 1 plays clip 1, and leaves by parameter 0
 unfoldable pub twoStates : List ℕ
-twoStates = 2 ∷ 2 ∷ 1 ∷ 2 ∷ 0 ∷ 255 ∷ 255 ∷ 1 ∷ 1 ∷ 1 ∷ 0 ∷ 0 ∷ 0 ∷ 0 ∷ 0 ∷ 1 ∷ 0 ∷ 1 ∷ 0 ∷ 0 ∷ 1 ∷ 0 ∷ 0 ∷ 0 ∷ []
+twoStates = 2 ∷ 2 ∷ 1 ∷ 2 ∷ 0 ∷ 255 ∷ 255 ∷ 1 ∷ 1 ∷ 1 ∷ 0 ∷ 1 ∷ 0 ∷ 0 ∷ 0 ∷ 0 ∷ 0 ∷ 1 ∷ 0 ∷ 1 ∷ 0 ∷ 0 ∷ 1 ∷ 0 ∷ 0 ∷ 0 ∷ []
 
 -- with its 2 rates, one value, one duration and 32 pose floats
 pub two-states-start : check twoStates 36 ≡ accepted

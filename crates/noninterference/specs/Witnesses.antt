@@ -89,7 +89,7 @@ unread-alike plan n v w unread = sets n v w (λ read. absurd (read unread))
 
 -- of an unchosen joint: of two roots with joint 0 chosen, joint 1's translation x, at place 9
 unfoldable pub twoRoots : List ℕ
-twoRoots = 2 ∷ 1 ∷ 0 ∷ 1 ∷ 0 ∷ 255 ∷ 255 ∷ 1 ∷ 1 ∷ 0 ∷ 0 ∷ 0 ∷ 0 ∷ 0 ∷ []
+twoRoots = 2 ∷ 1 ∷ 0 ∷ 1 ∷ 0 ∷ 255 ∷ 255 ∷ 1 ∷ 0 ∷ 1 ∷ 0 ∷ 0 ∷ 0 ∷ 0 ∷ 0 ∷ []
 
 pub two-roots-start : check twoRoots 17 ≡ accepted
 unfolding check-opened twoRoots

@@ -7,6 +7,7 @@ use blend_tree::StateAt;
 use blend_tree::poses::combine_all;
 use blend_tree::poses::state_poses;
 use blend_tree::sampling::clip_at;
+use blend_tree::sampling::clip_position;
 use blend_tree::sampling::clip_samples;
 use blend_tree::sampling::joint_pose;
 use blend_tree::synchronize::synchronize_state;
@@ -169,13 +170,11 @@ pub fn show_joint(
         (now (instances .entry)) (now (output .entry)) (now (output .exit))
         ⌝ }
 {
-    let clip = node_at(plan, state.here, 0).a;
+    let number = node_at(plan, state.here, 0).a;
     let instance = instance_at(instances, state.here.clip_node);
-    let samples = clip_samples(
-        clip_at(plan, numbers, state.layout, clip),
-        instance,
-        state.time,
-    );
+    let clip = clip_at(plan, numbers, state.layout, number);
+    let position = clip_position(clip, instance, state.time);
+    let samples = clip_samples(clip, position);
     calculate_root_pose(joint_pose(numbers, state.layout, samples, 0), output);
 }
 

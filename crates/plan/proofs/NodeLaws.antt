@@ -22,30 +22,30 @@ use Rattle.model.specs.Laws.Tests.{word-true, and-left}
 use Rattle.model.specs.Laws.ClipNodes.{first-clip-node, clip-counts, blend-counts-not}
 use Rattle.plan.specs.declared.words.Counts.{Counts}
 use Rattle.plan.specs.declared.nodes.NodePlace.{NodePlace}
-use Rattle.plan.specs.Parts.{CountsOf, isFree, checkClip, checkBlend, checkNodeAt, marksAfter, clipNodeAfter, HasInputs, Begins, Marks}
+use Rattle.plan.specs.Parts.{CountsOf, isFree, checkClipNode, checkBlendNode, checkNodeAt, marksAfter, clipNodeAfter, HasInputs, Begins, Marks}
 use Rattle.plan.proofs.Laws.{stops, goes, passed, Passing, passing-none, passing-next}
 
 -- ---- the words after the kind of a clip node
 
 module _ (plan : List ℕ) (node : NodePlace) (counts : Counts) where
-  pub clip-full : maxClipNodes ≤ node .«clip_node» → refused 2 (node .at) 0 ≡ checkClip plan node counts
-  unfolding checkClip require _then_
+  pub clip-full : maxClipNodes ≤ node .«clip_node» → refused 2 (node .at) 0 ≡ checkClipNode plan node counts
+  unfolding checkClipNode require _then_
   clip-full h = rw (le-ltb (node .«clip_node») _ h)
 
   module _ (few : node .«clip_node» < maxClipNodes) where
-    clip-words : checkClip plan node counts ≡ wordIs plan 4 (node .at + 1) (ltb (word plan (node .at + 1)) (counts .clips)) then wordIs plan 4 (node .at + 2) (eqb (word plan (node .at + 2)) 0) then wordIs plan 4 (node .at + 3) (eqb (word plan (node .at + 3)) 0)
-    unfolding checkClip require _then_
+    clip-words : checkClipNode plan node counts ≡ wordIs plan 4 (node .at + 1) (ltb (word plan (node .at + 1)) (counts .clips)) then wordIs plan 4 (node .at + 2) (eqb (word plan (node .at + 2)) 0) then wordIs plan 4 (node .at + 3) (eqb (word plan (node .at + 3)) 0)
+    unfolding checkClipNode require _then_
     clip-words = rw (lt-ltb (node .«clip_node») _ few)
 
     module _ (a : Answer) (e : values a ≡ wordIs plan 4 (node .at + 1) (ltb (word plan (node .at + 1)) (counts .clips))) where
-      pub clip-stops : tagOf the-type a ≡ 1 → values a ≡ checkClip plan node counts
+      pub clip-stops : tagOf the-type a ≡ 1 → values a ≡ checkClipNode plan node counts
       clip-stops t = stops _ _ _ t (stops _ _ _ t e) ∙ sym clip-words
 
       module _ (q : a ≡ Accepted) (x : ℕ) (is : x ≡ word plan (node .at + 2)) (b : Answer) (e₂ : values b ≡ wordIs plan 4 (node .at + 2) (eqb x 0)) where
-        pub clip-stops-second : tagOf the-type b ≡ 1 → values b ≡ checkClip plan node counts
+        pub clip-stops-second : tagOf the-type b ≡ 1 → values b ≡ checkClipNode plan node counts
         clip-stops-second t = stops _ _ _ t (goes _ _ _ _ q e (rw is at e₂)) ∙ sym clip-words
 
-        pub clip-ends : b ≡ Accepted → (y : ℕ) → y ≡ word plan (node .at + 3) → (c : Answer) → values c ≡ wordIs plan 4 (node .at + 3) (eqb y 0) → values c ≡ checkClip plan node counts
+        pub clip-ends : b ≡ Accepted → (y : ℕ) → y ≡ word plan (node .at + 3) → (c : Answer) → values c ≡ wordIs plan 4 (node .at + 3) (eqb y 0) → values c ≡ checkClipNode plan node counts
         clip-ends q₂ y is₃ c e₃ = goes _ _ _ _ q₂ (goes _ _ _ _ q e (rw is at e₂)) (rw is₃ at e₃) ∙ sym clip-words
 
 -- ---- the words after the kind of any other node: its first input, and both
@@ -70,26 +70,26 @@ module _ (plan : List ℕ) (node : NodePlace) (marks : List Bool) (x : ℕ) (is 
 
 module _ (plan : List ℕ) (node : NodePlace) (counts : Counts) (marks : List Bool) where
   module _ (k : Answer) (e : values k ≡ wordIs plan 4 (node .at) (leb (word plan (node .at)) 2)) (q : k ≡ Accepted) (w : ℕ) (is : w ≡ word plan (node .at)) (a : Answer) where
-    pub clip-goes : w ≡ 0 → values a ≡ checkClip plan node counts → values a ≡ checkNodeAt plan node counts marks
+    pub clip-goes : w ≡ 0 → values a ≡ checkClipNode plan node counts → values a ≡ checkNodeAt plan node counts marks
     unfolding checkNodeAt
     clip-goes z n = goes _ _ _ _ q e n ∙ rw (eq-eqb (word plan (node .at)) 0 (sym is ∙ z))
 
-    pub blend-goes : (w ≡ 0 → ⊥) → values a ≡ checkBlend plan node counts marks → values a ≡ checkNodeAt plan node counts marks
+    pub blend-goes : (w ≡ 0 → ⊥) → values a ≡ checkBlendNode plan node counts marks → values a ≡ checkNodeAt plan node counts marks
     unfolding checkNodeAt
     blend-goes z n = goes _ _ _ _ q e n ∙ rw (ne-eqb (word plan (node .at)) 0 (λ h. z (is ∙ h)))
 
   -- one that passed has earlier nodes for inputs
   module _ (ok : checkNodeAt plan node counts marks ≡ accepted) where
-    blend-passed : eqb (word plan (node .at)) 0 ≡ false → checkBlend plan node counts marks ≡ accepted
+    blend-passed : eqb (word plan (node .at)) 0 ≡ false → checkBlendNode plan node counts marks ≡ accepted
     unfolding checkNodeAt
     blend-passed e = rw e at (then-right _ _ ok)
 
     input-a-earlier : eqb (word plan (node .at)) 0 ≡ false → word plan (node .at + 1) < node .i
-    unfolding checkBlend
+    unfolding checkBlendNode
     input-a-earlier e = ltb-true _ _ (and-left _ _ (word-true _ _ _ _ (then-left _ _ (then-left _ _ (blend-passed e)))))
 
     input-b-earlier : eqb (word plan (node .at)) 0 ≡ false → word plan (node .at + 2) < node .i
-    unfolding checkBlend
+    unfolding checkBlendNode
     input-b-earlier e = ltb-true _ _ (and-left _ _ (and-left _ _ (word-true _ _ _ _ (then-right _ _ (then-left _ _ (blend-passed e))))))
 
     pub has-inputs : node .i ≤ maxNodes → HasInputs plan (node .at)
@@ -117,11 +117,11 @@ module _ (plan : List ℕ) (s : ℕ) (node : NodePlace) (place : node .at ≡ ki
       go (no h) = rw (le-ltb k (node .i) (omega arith))
 
   clip-same : eqb (word plan (kindAt plan s (node .i))) 0 ≡ true → checkNodeAt plan node counts marks ≡ checkNode plan s (node .i)
-  unfolding checkNodeAt checkClip checkNode isClip kind inputA inputB nodeParameter
+  unfolding checkNodeAt checkClipNode checkNode isClip kind inputA inputB nodeParameter
   clip-same e = rw (place, number, count .clips, e) (sym (after-first _ _ _ _ _))
 
   blend-same : eqb (word plan (kindAt plan s (node .i))) 0 ≡ false → checkNodeAt plan node counts marks ≡ checkNode plan s (node .i)
-  unfolding checkNodeAt checkBlend checkNode isClip kind inputA inputB nodeParameter require
+  unfolding checkNodeAt checkBlendNode checkNode isClip kind inputA inputB nodeParameter require
   blend-same e =
       rw (place, count .parameters, e, free (word plan (kindAt plan s (node .i) + 1)), free (word plan (kindAt plan s (node .i) + 2)))
       (sym (after-skipped _ _ _ _))

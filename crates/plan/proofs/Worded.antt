@@ -4,16 +4,17 @@ use native.Mathlib.Nat.{mul-le-mul}
 use native.Mathlib.Omega.{arith}
 use mathlib.Core.Path.{_≡_, refl, sym, _∙_}
 use mathlib.Core.List.{List}
+use lib.ListN.{length}
 use denote.Enum.Declared.{tagOf}
 use Rattle.model.specs.declared.Refusal.{Refusal}
 use Rattle.model.proofs.Answer.{the-type}
 use Rattle.model.proofs.Tags.{never}
 use Rattle.model.specs.Answers.{Verdict, accepted, refused, values, _then_}
 use Rattle.model.specs.Text.{maxWord}
-use Rattle.model.specs.Plan.{maxJoints, maxClips, maxStates, maxTransitions, stateCount, transitionCount, transitionsBefore, samplesBefore, posesAt, numbersLength}
+use Rattle.model.specs.Plan.{maxJoints, maxClips, maxStates, maxTransitions, clipCount, stateCount, sampleCountAt, stateAt, transitionCount, transitionsBefore, samplesBefore, posesAt, numbersLength}
 use Rattle.model.specs.Check.{checkHeader, check}
 use Rattle.model.specs.Laws.Answers.{then-left, then-right, then-accepted, then-refused, each-at}
-use Rattle.model.specs.Laws.State.{few-transitions}
+use Rattle.model.specs.Laws.State.{state-there, few-transitions}
 use Rattle.model.specs.Laws.Totals.{total-most}
 use Rattle.model.specs.Laws.Header as header
 use Rattle.layout.specs.declared.Layout.{Layout}
@@ -28,6 +29,11 @@ module _ (plan : List ℕ) (ok : Worded plan) where
   header-passed : checkHeader plan ≡ accepted
   unfolding checkWords
   header-passed = then-left _ _ (then-left _ _ (then-left _ _ ok))
+
+  -- the words of the clips are there: those of the states begin behind them
+  pub clips-there : sampleCountAt plan (clipCount plan) ≤ length plan
+  unfolding checkWords stateAt
+  clips-there = omega (arith, state-there plan 0 (each-at _ _ (then-right _ _ ok) 0 (omega (arith, header.initial-below plan header-passed))))
 
   pub few-transitions-in-all : transitionsBefore plan (stateCount plan) ≤ maxStates * maxTransitions
   unfolding checkWords transitionsBefore

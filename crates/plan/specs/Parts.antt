@@ -8,7 +8,7 @@ use lib.Dec.{ltb, leb, eqb}
 use Rattle.model.specs.declared.Answer.{Answer}
 use Rattle.model.specs.Answers.{Verdict, accepted, values, _then_, each, require}
 use Rattle.model.specs.Plan.{maxNodes, maxClipNodes, word, jointCount, clipCount, parameterCount, stateCount, stateAt, transitionsBefore, clipNodesBefore, planEnd, numbersLength}
-use Rattle.model.specs.Check.{wordIs, used, checkHeader, checkParent, checkSampleCount, checkNode, checkState}
+use Rattle.model.specs.Check.{wordIs, used, checkHeader, checkParent, checkClip, checkNode, checkState}
 use Rattle.layout.specs.Layout.{layoutOf}
 use Rattle.plan.specs.declared.words.Counts.{Counts}
 use Rattle.plan.specs.declared.nodes.NodePlace.{NodePlace}
@@ -26,8 +26,8 @@ pub record CountsOf (plan : List ℕ) (counts : Counts) : Type 0 where
 -- ---- a node and a transition, by what the walk over the words knows of them
 
 -- the words after the kind of a clip node
-unfoldable pub checkClip : List ℕ → NodePlace → Counts → Verdict
-checkClip plan node counts =
+unfoldable pub checkClipNode : List ℕ → NodePlace → Counts → Verdict
+checkClipNode plan node counts =
     require (ltb (node .«clip_node») maxClipNodes) 2 (node .at) then
     wordIs plan 4 (node .at + 1) (ltb (word plan (node .at + 1)) (counts .clips)) then
     wordIs plan 4 (node .at + 2) (eqb (word plan (node .at + 2)) 0) then
@@ -38,8 +38,8 @@ abbrev pub isFree : List Bool → ℕ → ℕ → Bool
 isFree marks i k = ltb k i && not (getD marks k false)
 
 -- the words after the kind of any other node
-unfoldable pub checkBlend : List ℕ → NodePlace → Counts → List Bool → Verdict
-checkBlend plan node counts marks =
+unfoldable pub checkBlendNode : List ℕ → NodePlace → Counts → List Bool → Verdict
+checkBlendNode plan node counts marks =
     let a = word plan (node .at + 1) in
     let b = word plan (node .at + 2) in
     wordIs plan 4 (node .at + 1) (isFree marks (node .i) a) then
@@ -49,7 +49,7 @@ checkBlend plan node counts marks =
 unfoldable pub checkNodeAt : List ℕ → NodePlace → Counts → List Bool → Verdict
 checkNodeAt plan node counts marks =
     wordIs plan 4 (node .at) (leb (word plan (node .at)) 2) then
-    cond (eqb (word plan (node .at)) 0) (checkClip plan node counts) (checkBlend plan node counts marks)
+    cond (eqb (word plan (node .at)) 0) (checkClipNode plan node counts) (checkBlendNode plan node counts marks)
 
 -- what the node whose kind stands at a place makes of the marks and of the next clip node's number
 unfoldable pub marksAfter : List ℕ → ℕ → List Bool → List Bool
@@ -97,9 +97,9 @@ pub record StatesChecked (plan : List ℕ) (n : ℕ) (r : States) : Type 0 where
 
 -- ---- the whole check
 
--- refusals 1 to 5: all words that the plan says it has
+-- refusals 1 to 5 and 14: all words that the plan says it has
 unfoldable pub checkWords : List ℕ → Verdict
-checkWords plan = checkHeader plan then each (jointCount plan) (checkParent plan) then each (clipCount plan) (checkSampleCount plan) then each (stateCount plan) (checkState plan)
+checkWords plan = checkHeader plan then each (jointCount plan) (checkParent plan) then each (clipCount plan) (checkClip plan) then each (stateCount plan) (checkState plan)
 
 pub record WordsChecked (plan : List ℕ) (r : States) : Type 0 where
   pub answer : values (r .answer) ≡ checkWords plan

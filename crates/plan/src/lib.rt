@@ -2,9 +2,9 @@
 use crate::states::States;
 use crate::states::check_states;
 use crate::words::Counts;
+use crate::words::check_clips;
 use crate::words::check_header;
 use crate::words::check_parents;
-use crate::words::check_sample_counts;
 use layout::CLIP_COUNT_AT;
 use layout::INITIAL_STATE_AT;
 use layout::JOINT_COUNT_AT;
@@ -43,7 +43,7 @@ pub fn answer_of(checked: Checked) -> Answer
     }
 }
 
-// Refusals 1 to 5: every word that the plan says it has.
+// Refusals 1 to 5 and 14: every word that the plan says it has.
 fn check_words(plan: &[u16]) -> States
     ensures { λ r. ⌜ WordsChecked (now (plan .entry)) r ⌝ }
 {
@@ -65,10 +65,10 @@ fn check_words(plan: &[u16]) -> States
         };
     };
     let clips = word(plan, CLIP_COUNT_AT);
-    let samples = check_sample_counts(plan, joints, clips);
-    let Answer::Accepted = samples else {
+    let each_clip = check_clips(plan, joints, clips);
+    let Answer::Accepted = each_clip else {
         return States {
-            answer: samples,
+            answer: each_clip,
             end: 0,
             transitions: 0,
         };
@@ -124,7 +124,7 @@ fn check_lengths(plan: &[u16], numbers: usize, end: usize, transitions: usize) -
     Checked::Passed(layout)
 }
 
-// Refusals 1 to 7 for a plan with so many numbers.
+// Refusals 1 to 7 and 14 for a plan with so many numbers.
 pub fn check(plan: &[u16], numbers: usize) -> Checked
     ensures { λ r. ⌜ PlanChecked (now (plan .entry)) numbers r ⌝ }
 {

@@ -16,7 +16,7 @@ ghost use lib.ListN.{getD};
 ghost use Rattle.model.specs.Answers.{values, each, require};
 ghost use Rattle.model.specs.Text.{maxWord};
 ghost use Rattle.model.specs.Plan.{maxNodes, maxPlan};
-ghost use Rattle.plan.specs.Parts.{isFree, checkClip, checkBlend, checkNodeAt, marksAfter, clipNodeAfter};
+ghost use Rattle.plan.specs.Parts.{isFree, checkClipNode, checkBlendNode, checkNodeAt, marksAfter, clipNodeAfter};
 ghost use Rattle.plan.specs.Parts.{CountsOf, HasInputs, NodesChecked};
 
 // A mark for each node, and one more: a power of two of bytes is copied without overlap, which makes the whole check
@@ -37,9 +37,9 @@ pub struct Nodes {
 }
 
 // The words after the kind of a clip node. One clip node too many is refused at its kind.
-fn check_clip(plan: &[u16], node: NodePlace, counts: Counts) -> Answer
+fn check_clip_node(plan: &[u16], node: NodePlace, counts: Counts) -> Answer
     requires { ⌜ node .at ≤ maxWord ⌝ }
-    ensures { λ r. ⌜ values r ≡ checkClip (now (plan .entry)) node counts ⌝ }
+    ensures { λ r. ⌜ values r ≡ checkClipNode (now (plan .entry)) node counts ⌝ }
 {
     let at = node.at;
     if node.clip_node >= MAX_CLIP_NODES {
@@ -65,9 +65,9 @@ fn is_free(used: &[bool; MARKS], k: usize, i: usize) -> bool
 }
 
 // The words after the kind of a lerp or additive node.
-fn check_blend(plan: &[u16], node: NodePlace, counts: Counts, used: &[bool; MARKS]) -> Answer
+fn check_blend_node(plan: &[u16], node: NodePlace, counts: Counts, used: &[bool; MARKS]) -> Answer
     requires { ⌜ (node .at ≤ maxWord) × (node .i ≤ maxNodes) ⌝ }
-    ensures { λ r. ⌜ values r ≡ checkBlend (now (plan .entry)) node counts (now (used .entry)) ⌝ }
+    ensures { λ r. ⌜ values r ≡ checkBlendNode (now (plan .entry)) node counts (now (used .entry)) ⌝ }
 {
     let at = node.at;
     let a = word(plan, at + 1);
@@ -92,9 +92,9 @@ fn check_node(plan: &[u16], node: NodePlace, counts: Counts, used: &[bool; MARKS
         return kind;
     };
     if word(plan, node.at) == 0 {
-        return check_clip(plan, node, counts);
+        return check_clip_node(plan, node, counts);
     }
-    check_blend(plan, node, counts, used)
+    check_blend_node(plan, node, counts, used)
 }
 
 // The marks after the node whose kind is the word `at`.

@@ -15,7 +15,7 @@ ghost use mathlib.Core.Path.{_≡_};
 ghost use Prim.Native.Nat.{_+_, _*_, _<_, _≤_};
 ghost use Rattle.model.specs.Answers.{values, each};
 ghost use Rattle.model.specs.Text.{maxWord};
-ghost use Rattle.model.specs.Plan.{maxJoints, maxClips, maxStates, maxPlan, parentAt, stateAt};
+ghost use Rattle.model.specs.Plan.{maxStates, maxStatesAt, maxPlan, stateAt};
 ghost use Rattle.plan.specs.Parts.{CountsOf, checkTransitionAt, StateChecked, StatesChecked};
 
 // What the check of all states comes to: the answer, and beside it the word after the last state and the count of
@@ -90,7 +90,7 @@ fn check_state(plan: &[u16], at: usize, counts: Counts, clip_node: usize) -> Ans
 // All states, the first of which begins at `from`.
 pub fn check_states(plan: &[u16], from: usize, counts: Counts) -> States
     requires { ⌜
-        (from ≤ parentAt maxJoints + maxClips)
+        (from ≤ maxStatesAt)
         × (from ≡ stateAt (now plan) 0)
         × CountsOf (now plan) counts
         × (counts .states ≤ maxStates)

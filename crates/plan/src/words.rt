@@ -21,7 +21,7 @@ ghost use lib.Dec.{leb, ltb};
 ghost use Rattle.model.specs.Answers.{values, each};
 ghost use Rattle.model.specs.Text.{maxWord};
 ghost use Rattle.model.specs.Plan.{word, jointCount};
-ghost use Rattle.model.specs.Check.{within, wordIs, checkHeader, checkParent, checkSampleCount};
+ghost use Rattle.model.specs.Check.{within, wordIs, checkHeader, checkParent, checkClip};
 
 // The header's counts that words of states are held against.
 pub struct Counts {
@@ -114,15 +114,29 @@ pub fn check_parents(plan: &[u16], joints: usize) -> Answer
     Answer::Accepted
 }
 
-pub fn check_sample_counts(plan: &[u16], joints: usize, clips: usize) -> Answer
+// A sample count, then its ending.
+fn check_clip(plan: &[u16], joints: usize, c: usize) -> Answer
+    requires { ⌜ (joints ≡ jointCount (now plan)) × (joints ≤ maxWord) × (c ≤ maxWord) ⌝ }
+    ensures { λ r. ⌜ values r ≡ checkClip (now (plan .entry)) c ⌝ }
+{
+    let at = sample_count_at(joints, c);
+    let ending_at = at + 1;
+    let count = word_within(plan, 2, at, 1, MAX_SAMPLES);
+    let Answer::Accepted = count else {
+        return count;
+    };
+    word_within(plan, 14, ending_at, 0, 1)
+}
+
+pub fn check_clips(plan: &[u16], joints: usize, clips: usize) -> Answer
     requires { ⌜ (joints ≡ jointCount (now plan)) × (joints ≤ maxWord) × (clips ≤ maxWord) ⌝ }
-    ensures { λ r. ⌜ values r ≡ each clips (checkSampleCount (now (plan .entry))) ⌝ }
+    ensures { λ r. ⌜ values r ≡ each clips (checkClip (now (plan .entry))) ⌝ }
 {
     let mut c = 0;
     while c < clips {
-        let count = word_within(plan, 2, sample_count_at(joints, c), 1, MAX_SAMPLES);
-        let Answer::Accepted = count else {
-            return count;
+        let clip = check_clip(plan, joints, c);
+        let Answer::Accepted = clip else {
+            return clip;
         };
         c += 1;
     }

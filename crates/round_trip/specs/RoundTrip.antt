@@ -1,9 +1,11 @@
 -- What writing a figure and reading it have to do with each other. Definitions only: the theorems are Theorems.antt.
-use Prim.Native.Nat.{ℕ, _≤_}
+use Prim.Native.Nat.{ℕ}
 use mathlib.Core.Path.{_≡_}
-use mathlib.Core.Bool.{cond}
+use mathlib.Core.Bool.{Bool, true, cond, _||_}
 use mathlib.Core.List.{List, [], map}
+use lib.Dec.{eqb}
 use lib.Ieee.{Float, binary32, toBits, nanBits}
+use Rattle.model.specs.Check.{within}
 use Rattle.model.specs.Text.{got, readFigure, floatsOf}
 use Rattle.model.specs.Program.{figureText}
 use Rattle.model.specs.Answers.{Verdict, accepted, refused}
@@ -42,11 +44,10 @@ pub record WritesFloats (text plan bits : List ℕ) : Type 0 where
 
 -- ---- refusals
 
--- a refusal that is about what words say: 2 to 5. The others of a start, 1, 6 and 7, are about lengths
-pub record OfContent (number : ℕ) : Type 0 where
-  pub some : 2 ≤ number
-  pub most : number ≤ 5
+-- a refusal that is about what words say: 2 to 5, and 14. The others of a start, 1, 6 and 7, are about lengths
+abbrev pub isOfContent : ℕ → Bool
+isOfContent number = within 2 number 5 || eqb number 14
 
 unfoldable pub ofContent : Verdict → Type 0
 ofContent accepted = Unit {0}
-ofContent (refused number place rest) = OfContent number
+ofContent (refused number place rest) = isOfContent number ≡ true

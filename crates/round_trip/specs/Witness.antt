@@ -9,9 +9,9 @@ use Rattle.model.specs.Program.{glyph, digits, places, decimalText, bitsText, d
 use Rattle.round_trip.specs.Counted.{Counted}
 use Rattle.round_trip.specs.Theorems.{writes-back}
 
--- one joint, one clip of one sample, one state with one node and one transition
+-- one joint, one clip of one sample with an ending that a start refuses, one state with one node and one transition
 pub plan : List ℕ
-plan = 1 ∷ 1 ∷ 0 ∷ 1 ∷ 0 ∷ 255 ∷ 1 ∷ 1 ∷ 0 ∷ 0 ∷ 0 ∷ 0 ∷ 1 ∷ 0 ∷ 0 ∷ 65535 ∷ []
+plan = 1 ∷ 1 ∷ 0 ∷ 1 ∷ 0 ∷ 255 ∷ 1 ∷ 14 ∷ 1 ∷ 0 ∷ 0 ∷ 0 ∷ 0 ∷ 1 ∷ 0 ∷ 0 ∷ 65535 ∷ []
 
 pub bits : List ℕ
 bits = 0x3f800000 ∷ 0x7fc00001 ∷ 0x3f000000 ∷ 0 ∷ 0 ∷ 0x80000000 ∷ 0x3f800000 ∷ 0x3f800000 ∷ 0 ∷ 0 ∷ 0xffffffff ∷ []

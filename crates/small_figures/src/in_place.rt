@@ -26,7 +26,7 @@ fn step(player: Player, delta: f64) {
 
 // At speed 2 the clock moves twice as far as it is told: from 0 by 0.75 to 1.5, and from there by 0.25 to 2.
 pub fn beside_update() {
-    let plan: [u16; 13] = [1, 1, 0, 1, 0, NO_PARENT, 1, 1, 0, 0, 0, 0, 0];
+    let plan: [u16; 14] = [1, 1, 0, 1, 0, NO_PARENT, 1, 0, 1, 0, 0, 0, 0, 0];
     let numbers: [f32; 9] = [1.0, 1.0, 2.0, 3.0, 1.0, 1.0, 0.0, 0.0, 0.0];
     show::text(b"# update-in-place: a player updated where it lies, beside one updated by value\n");
     let begun = start(&plan, &numbers);

@@ -13,6 +13,7 @@ fn main() {
     refusals::joint_limit();
     signs::there_and_back();
     signs::page();
+    signs::held();
     signs::nothing_but_nan();
     unseen::sevens();
     unseen::nan();

@@ -1,4 +1,4 @@
-// The printed example, and every refusal from 1 to 10.
+// The printed example, and every refusal from 1 to 10 and 14.
 use crate::show;
 use controller::frame;
 use controller::set;
@@ -23,13 +23,13 @@ const ALL_JOINTS: u16 = MAX_JOINTS as u16;
 
 const CLIPS_AT: usize = PARENTS_AT + MAX_JOINTS;
 
-const ALL_WORDS: usize = CLIPS_AT + 7;
+const ALL_WORDS: usize = CLIPS_AT + 8;
 
 const ALL_NUMBERS: usize = 1 + MAX_JOINTS * POSE_FLOATS;
 
 // One joint, one clip of one sample, one state.
 pub fn printed_example() {
-    let plan: [u16; 13] = [1, 1, 0, 1, 0, NO_PARENT, 1, 1, 0, 0, 0, 0, 0];
+    let plan: [u16; 14] = [1, 1, 0, 1, 0, NO_PARENT, 1, 0, 1, 0, 0, 0, 0, 0];
     let numbers: [f32; 9] = [1.0, 1.0, 2.0, 3.0, 1.0, 1.0, 0.0, 0.0, 0.0];
     let mut output = [9.0f32; MATRIX_FLOATS + 2];
     show::text(b"# printed-example: the two floats behind the matrix are kept\n");
@@ -50,40 +50,52 @@ fn try_start(title: &[u8], plan: &[u16], numbers: &[f32]) {
 
 pub fn of_start() {
     let numbers: [f32; 9] = [1.0, 1.0, 2.0, 3.0, 1.0, 1.0, 0.0, 0.0, 0.0];
-    let plan: [u16; 14] = [1, 1, 0, 1, 0, NO_PARENT, 1, 1, 0, 0, 0, 0, 0, 0];
+    let plan: [u16; 15] = [1, 1, 0, 1, 0, NO_PARENT, 1, 0, 1, 0, 0, 0, 0, 0, 0];
     try_start(
         b"# start-1: the plan ends after three words\n",
         &plan[..3],
         &numbers,
     );
-    let no_clips: [u16; 13] = [1, 0, 0, 1, 0, NO_PARENT, 1, 1, 0, 0, 0, 0, 0];
+    let no_clips: [u16; 14] = [1, 0, 0, 1, 0, NO_PARENT, 1, 0, 1, 0, 0, 0, 0, 0];
     try_start(b"# start-2: no clips\n", &no_clips, &numbers);
-    let own_parent: [u16; 13] = [1, 1, 0, 1, 0, 0, 1, 1, 0, 0, 0, 0, 0];
+    let own_parent: [u16; 14] = [1, 1, 0, 1, 0, 0, 1, 0, 1, 0, 0, 0, 0, 0];
     try_start(
         b"# start-3: a joint that is its own parent\n",
         &own_parent,
         &numbers,
     );
-    let no_such_clip: [u16; 13] = [1, 1, 0, 1, 0, NO_PARENT, 1, 1, 0, 1, 0, 0, 0];
+    let no_such_clip: [u16; 14] = [1, 1, 0, 1, 0, NO_PARENT, 1, 0, 1, 0, 1, 0, 0, 0];
     try_start(
         b"# start-4-clip: a clip that there is not\n",
         &no_such_clip,
         &numbers,
     );
-    let unused: [u16; 17] = [1, 1, 0, 1, 0, NO_PARENT, 1, 2, 0, 0, 0, 0, 0, 0, 0, 0, 0];
+    let unused: [u16; 18] = [1, 1, 0, 1, 0, NO_PARENT, 1, 0, 2, 0, 0, 0, 0, 0, 0, 0, 0, 0];
     try_start(
         b"# start-4-unused: two clip nodes and no node above them, found at K\n",
         &unused,
         &numbers,
     );
-    let no_parameter: [u16; 16] = [1, 1, 0, 1, 0, NO_PARENT, 1, 1, 0, 0, 0, 0, 1, 0, 0, 0];
+    let no_parameter: [u16; 17] = [1, 1, 0, 1, 0, NO_PARENT, 1, 0, 1, 0, 0, 0, 0, 1, 0, 0, 0];
     try_start(
         b"# start-5: a condition on a parameter, where none can be read\n",
         &no_parameter,
         &numbers,
     );
+    let no_ending: [u16; 14] = [1, 1, 0, 1, 0, NO_PARENT, 1, 2, 1, 0, 0, 0, 0, 0];
+    try_start(
+        b"# start-14: an ending that is neither loop nor stop\n",
+        &no_ending,
+        &numbers,
+    );
+    let no_samples: [u16; 14] = [1, 1, 0, 1, 0, NO_PARENT, 0, 2, 1, 0, 0, 0, 0, 0];
+    try_start(
+        b"# start-14-after-2: a clip without samples and with such an ending\n",
+        &no_samples,
+        &numbers,
+    );
     try_start(b"# start-6: a word too many\n", &plan, &numbers);
-    try_start(b"# start-7: a number too few\n", &plan[..13], &numbers[..8]);
+    try_start(b"# start-7: a number too few\n", &plan[..14], &numbers[..8]);
 }
 
 fn try_frame(title: &[u8], plan: &[u16], numbers: &[f32], player: Player, output: &mut [f32])
@@ -95,7 +107,7 @@ fn try_frame(title: &[u8], plan: &[u16], numbers: &[f32], player: Player, output
 }
 
 pub fn of_set_and_frame() {
-    let plan: [u16; 13] = [1, 1, 0, 1, 0, NO_PARENT, 1, 1, 0, 0, 0, 0, 0];
+    let plan: [u16; 14] = [1, 1, 0, 1, 0, NO_PARENT, 1, 0, 1, 0, 0, 0, 0, 0];
     let numbers: [f32; 9] = [1.0, 1.0, 2.0, 3.0, 1.0, 1.0, 0.0, 0.0, 0.0];
     let mut output = [9.0f32; MATRIX_FLOATS - 1];
     let begun = start(&plan, &numbers);
@@ -158,12 +170,13 @@ pub fn joint_limit() {
     plan[3] = 1;
     plan[4] = 0;
     plan[CLIPS_AT] = 1;
-    plan[CLIPS_AT + 1] = 1;
-    plan[CLIPS_AT + 2] = 0;
+    plan[CLIPS_AT + 1] = 0;
+    plan[CLIPS_AT + 2] = 1;
     plan[CLIPS_AT + 3] = 0;
     plan[CLIPS_AT + 4] = 0;
     plan[CLIPS_AT + 5] = 0;
     plan[CLIPS_AT + 6] = 0;
+    plan[CLIPS_AT + 7] = 0;
     let numbers = [1.0f32; ALL_NUMBERS];
     try_start(b"# joints-64: they pass\n", &plan, &numbers);
     plan[0] = ALL_JOINTS + 1;

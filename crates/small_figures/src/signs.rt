@@ -23,7 +23,7 @@ fn framed(plan: &[u16], numbers: &[f32], player: Player, ext: f64) -> Player {
 // The first state lerps a clip of two samples with one of a single sample by parameter 0. It leaves for the second state where that is above 0.5, within two
 // seconds. The second plays the single sample, and goes back where the parameter is at least 0.5, in no time.
 pub fn there_and_back() {
-    let plan: [u16; 35] = [
+    let plan: [u16; 37] = [
         2,
         2,
         1,
@@ -32,7 +32,9 @@ pub fn there_and_back() {
         NO_PARENT,
         0,
         2,
+        0,
         1,
+        0,
         3,
         0,
         0,
@@ -137,7 +139,7 @@ pub fn there_and_back() {
 
 // One joint, turned by the rotation ½ ½ ½ ½.
 pub fn page() {
-    let plan: [u16; 13] = [1, 1, 0, 1, 0, NO_PARENT, 1, 1, 0, 0, 0, 0, 0];
+    let plan: [u16; 14] = [1, 1, 0, 1, 0, NO_PARENT, 1, 0, 1, 0, 0, 0, 0, 0];
     let numbers: [f32; 9] = [1.0, 1.0, 2.0, 3.0, 1.0, 0.5, 0.5, 0.5, 0.5];
     let mut output = [0.0f32; MATRIX_FLOATS];
     show::text(
@@ -151,15 +153,43 @@ pub fn page() {
     let answer = paged.answer;
     show::answer(b"page\n", answer);
     show::joints(1, &output);
-    let refused = page_frame(&plan[..12], &numbers, player, 0.0, &mut output);
+    let refused = page_frame(&plan[..13], &numbers, player, 0.0, &mut output);
     let refusal = refused.answer;
     show::answer(b"page\n", refusal);
     show::joints(1, &output);
 }
 
+// Three samples at two a second, x being 1, 2 and 4, at position 2.5.
+fn past_the_last(ending: u16) {
+    let plan: [u16; 14] = [1, 1, 0, 1, 0, NO_PARENT, 3, ending, 1, 0, 0, 0, 0, 0];
+    let mut numbers = [0.0f32; 25];
+    numbers[0] = 2.0;
+    numbers[1] = 1.0;
+    numbers[5] = 1.0;
+    numbers[9] = 2.0;
+    numbers[13] = 1.0;
+    numbers[17] = 4.0;
+    numbers[21] = 1.0;
+    let mut output = [0.0f32; MATRIX_FLOATS];
+    let begun = start(&plan, &numbers);
+    let fresh = begun.player;
+    let shown = frame(&plan, &numbers, update(fresh, 1.25), 0.0, &mut output);
+    let answer = shown.answer;
+    show::answer(b"frame\n", answer);
+    show::joints(1, &output);
+}
+
+pub fn held() {
+    show::text(
+        b"# held: past its last sample a clip that loops is on its way back, and one that stops stays\n",
+    );
+    past_the_last(0);
+    past_the_last(1);
+}
+
 // A lerp of two clips, with every number, time and parameter NaN. Its transition is never begun, since no comparison holds of NaN but !=.
 pub fn nothing_but_nan() {
-    let plan: [u16; 25] = [
+    let plan: [u16; 27] = [
         1,
         2,
         1,
@@ -167,7 +197,9 @@ pub fn nothing_but_nan() {
         0,
         NO_PARENT,
         1,
+        0,
         1,
+        0,
         3,
         0,
         0,

@@ -47,7 +47,7 @@ fn figure(unseen: f32) -> [f32; NUMBERS] {
 
 // The first state lerps clips 0 and 1 by parameter 0. Nothing leads to the second, which lerps clips 2 and 0 by parameter 1 and tests that too.
 fn played(unseen: f32, numbers: &[f32]) {
-    let plan: [u16; 41] = [
+    let plan: [u16; 44] = [
         2,
         3,
         2,
@@ -56,8 +56,11 @@ fn played(unseen: f32, numbers: &[f32]) {
         NO_PARENT,
         NO_PARENT,
         2,
+        0,
         1,
+        0,
         1,
+        0,
         3,
         0,
         0,

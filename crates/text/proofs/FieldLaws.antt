@@ -59,6 +59,14 @@ module _ {kind is : LineKind} {k : ℕ} (n : ℕ) (e : kind ≡ is) where
   pub words-to : take n (forms is) ≡ replicate n (Decimal maxWord) → k < n → Decimal maxWord ≡ formOf kind k
   words-to p h = rw (e, ← getD-take n (forms is) k Bits h, p, getD-replicate n k (Decimal maxWord) Bits h)
 
+-- a clip's fields are words but for its rate
+pub clip-bits : {kind : LineKind} {k : ℕ} → kind ≡ Clip → (k ≡ 0 → ⊥) → (k ≡ 2 → ⊥) → Bits ≡ formOf kind k
+unfolding forms
+clip-bits {k = zero} e first third = absurd (first refl)
+clip-bits {k = suc zero} e first third = rw e
+clip-bits {k = suc (suc zero)} e first third = absurd (third refl)
+clip-bits {k = suc (suc (suc k))} e first third = rw e
+
 -- ---- fields
 
 one-more : (k : ℕ) (array : List ℕ) (v : ℕ) (l : Line) → inArray k array (withField v l) ≡ inArray (suc k) (set array k v) l

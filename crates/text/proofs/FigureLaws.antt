@@ -6,13 +6,13 @@ use native.Mathlib.Omega.{arith}
 use mathlib.Core.Path.{_≡_, refl, sym, subst}
 use mathlib.Core.List.{List, [], _∷_, _++_}
 use lib.Ieee.{Float}
-use lib.ListN.{length, getD, take, drop, length-drop, length-append, drop-of-length-le, List·getD-append}
+use lib.ListN.{length, getD, drop, length-drop, length-append, drop-of-length-le, List·getD-append}
 use lib.Seq.{sets, getD-append-seam}
 use borrow.Author.Tests.{eq-eqb, ne-eqb}
 use denote.Enum.Declared.{tagOf}
 use Rattle.model.specs.declared.LineKind.the-variants.{Clip, State, Node, Go}
-use Rattle.model.specs.Text.{maxWord, forms, fieldCount, lineIn, wordsIn, bitsIn, Reading, bad, got, prefixed, andThen, times, readLine, fromState, readState, readEnd, readWords}
-use Rattle.model.specs.Plan.{maxJoints, maxClips, maxSamples, total}
+use Rattle.model.specs.Text.{maxWord, front, forms, lineIn, wordsIn, bitsIn, Reading, bad, got, prefixed, andThen, times, readLine, fromState, readState, readEnd, readWords, samplesIn}
+use Rattle.model.specs.Plan.{maxJoints, maxClips, maxSamples, clipWords, total}
 use Rattle.model.specs.Laws.Totals.{total-same}
 use Rattle.text.specs.declared.lines.LineEnd.{LineEnd}
 use Rattle.text.specs.declared.put.Progress.{Progress}
@@ -129,11 +129,15 @@ module _ {text values : List ℕ} {r : Progress} {at : ℕ} (l : LineAt State te
 
 -- ---- clips, whose samples are summed up
 
-total-more : (ws : List ℕ) (v : ℕ) → total (λ c. getD (ws ++ (v ∷ [])) c 0) (suc (length ws)) ≡ total (λ c. getD ws c 0) (length ws) + v
+-- with the words of one more clip behind those of n
+samples-more : (ws : List ℕ) (n v ending : ℕ) → length ws ≡ clipWords * n → samplesIn (ws ++ (v ∷ ending ∷ [])) (suc n) ≡ samplesIn ws n + v
 unfolding total
-total-more ws v =
-    let same = total-same (λ c. getD (ws ++ (v ∷ [])) c 0) (λ c. getD ws c 0) (length ws) (List·getD-append ws (v ∷ []) 0) in
-    rw (same, getD-append-seam ws v [] 0)
+samples-more ws n v ending e =
+    let more = ws ++ (v ∷ ending ∷ []) in
+    let same : samplesIn more n ≡ samplesIn ws n =
+    total-same (λ c. getD more (clipWords * c) 0) (λ c. getD ws (clipWords * c) 0) n (λ c less. List·getD-append ws (v ∷ ending ∷ []) 0 (clipWords * c) (omega arith)) in
+    let new : getD more (clipWords * n) 0 ≡ v = rw (← e) (getD-append-seam ws v (ending ∷ []) 0) in
+    rw (same, new)
 
 module _ {text values : List ℕ} {q : Progress} {at : ℕ} (l : LineAt Clip text values q at) where
   pub few-samples : getD values 0 0 ≤ maxSamples
@@ -149,9 +153,8 @@ module _ {text values : List ℕ} {q : Progress} {at : ℕ} (l : LineAt Clip tex
       more : (x : Reading) → ReadAs text r p₀ p₁ n₀ n₁ (Next q) x → sampled i m x → sampled (suc i) (m + getD values 0 0) (andThen x (λ _. readLine Clip))
       more (bad n) a b = absurd a
       more (got ws bs rest n) a b =
-          let v = getD values 0 0 in
           let few = few-samples in
-          let sum : total (λ c. getD (ws ++ (v ∷ [])) c 0) (suc i) ≡ total (λ c. getD ws c 0) i + v = rw (b .0) at (total-more ws v) in
+          let sum = samples-more ws i (getD values 0 0) (front (drop 1 (drop 1 values))) (b .0) in
           rw (a .left, line-read l, length-append, sum) (omega arith, omega arith, omega arith)
 
 pub sampled-start : (s : List ℕ) → sampled 0 0 (times 0 (readLine Clip) s)
@@ -171,7 +174,7 @@ sampled-bad text r p₀ p₁ n₀ n₁ (bad n) step count m t a = tt
 -- ---- clips, states and poses
 
 pub sampled-sum : (text : List ℕ) (r q : Progress) (p₀ p₁ : List ℕ) (n₀ n₁ : List Float) (x : Reading) (count m : ℕ) (step : Step)
-    → step ≡ Next q → ReadAs text r p₀ p₁ n₀ n₁ step x → sampled count m x → (m ≡ total (λ c. getD (readWords x) c 0) count) × (m ≤ count * maxSamples)
+    → step ≡ Next q → ReadAs text r p₀ p₁ n₀ n₁ step x → sampled count m x → (m ≡ samplesIn (readWords x) count) × (m ≤ count * maxSamples)
 unfolding ReadAs sampled readWords
 sampled-sum text r q p₀ p₁ n₀ n₁ (got ws bs rest n) count m step e a b = (b .1, b .2)
 sampled-sum text r q p₀ p₁ n₀ n₁ (bad n) count m step e a b = absurd (subst (λ (s : Step). ReadAs text r p₀ p₁ n₀ n₁ s (bad n)) e a)

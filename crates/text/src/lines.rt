@@ -55,7 +55,7 @@ pub fn field_count(kind: LineKind) -> usize
     match kind {
         LineKind::Figure => 5,
         LineKind::Joint => 1,
-        LineKind::Clip => 2,
+        LineKind::Clip => 3,
         LineKind::State => 2,
         LineKind::Node => 4,
         LineKind::Go => 5,
@@ -88,6 +88,7 @@ pub fn field_form(kind: LineKind, k: usize) -> FieldForm
         },
         LineKind::Clip => match k {
             0 => decimal(MAX_SAMPLES as u16),
+            2 => decimal(MAX_WORD as u16),
             _ => FieldForm::Bits,
         },
         LineKind::State => match k {

@@ -1,6 +1,6 @@
 //! What is compared: the calls of the static library, and the player as a host holds it.
 
-use compare::reference::player::{Player, Running, INSTANCES, PARAMETERS};
+use compare::player::{Player, Running, INSTANCES, PARAMETERS};
 use compare::texts::figure::Refusal;
 use std::fmt;
 

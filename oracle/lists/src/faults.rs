@@ -1,5 +1,7 @@
 //! The library with a fault put in on the way.
 
+use crate::ending_faults::Frame;
+use crate::endings::with_endings;
 use crate::evaluator::{Answer, Evaluator, HostPlayer, Shown, TextAnswer};
 
 #[derive(Clone, Copy, Debug, PartialEq, Eq)]
@@ -31,10 +33,24 @@ pub enum Fault {
     TextPlace,
     TextRefusedWrites,
     TextCount,
+    StopLoops,
+    LoopStops,
+    StopsAtCount,
+    HeldFactorKept,
+    HeldWithoutLerp,
+    InfinityLoops,
+    NanHeld,
+    EndingAccepted,
+    EndingPlace,
+    EndingNumber,
+    FrameEnding,
+    EndingBeforeCount,
+    EndingsAfterCounts,
+    TextEndingLost,
 }
 
 impl Fault {
-    pub const ALL: [Fault; 26] = [
+    pub const ALL: [Fault; 40] = [
         Fault::ClockWithoutSpeed,
         Fault::SpeedLost,
         Fault::NeighbourSet,
@@ -61,6 +77,20 @@ impl Fault {
         Fault::TextPlace,
         Fault::TextRefusedWrites,
         Fault::TextCount,
+        Fault::StopLoops,
+        Fault::LoopStops,
+        Fault::StopsAtCount,
+        Fault::HeldFactorKept,
+        Fault::HeldWithoutLerp,
+        Fault::InfinityLoops,
+        Fault::NanHeld,
+        Fault::EndingAccepted,
+        Fault::EndingPlace,
+        Fault::EndingNumber,
+        Fault::FrameEnding,
+        Fault::EndingBeforeCount,
+        Fault::EndingsAfterCounts,
+        Fault::TextEndingLost,
     ];
 }
 
@@ -92,6 +122,17 @@ impl Faulty<'_> {
         }
     }
 
+    /// What the fault does to a frame's answer.
+    fn spoil_answer(&self, answer: &mut Answer, ext: f64) {
+        match self.fault {
+            Fault::FrameRefused if ext.is_nan() => answer.number = 10,
+            Fault::FramePlace if answer.number == 3 => answer.place += 1,
+            Fault::FrameEnding if answer.number == 14 => answer.number = 2,
+            Fault::NineForTen if answer.number == 9 => answer.number = 10,
+            _ => {}
+        }
+    }
+
     /// What the fault does to an accepted frame's output.
     fn spoil_output(&self, joints: usize, before: &[f32], output: &mut [f32]) {
         let last = 16 * joints - 1;
@@ -117,7 +158,9 @@ fn flipped(x: f32) -> f32 {
 impl Evaluator for Faulty<'_> {
     fn start(&self, plan: &[u16], numbers: &[f32], player: &mut HostPlayer) -> Answer {
         let before = *player;
-        let mut answer = self.library.start(plan, numbers, player);
+        let handed_on = self.plan_handed_on(plan);
+        let mut answer = self.library.start(&handed_on, numbers, player);
+        self.spoil_refusal(plan, &mut answer);
         if !answer.is_accepted() && self.has(Fault::StartPlace) {
             answer.place += usize::from(answer.number == 4);
         }
@@ -174,17 +217,24 @@ impl Evaluator for Faulty<'_> {
             Fault::PageNotTransposed => Shown::Frame,
             _ => shown,
         };
+        let handed_on = self.plan_handed_on(plan);
         let mut answer = self
             .library
-            .frame(shown, plan, numbers, player, ext, output);
+            .frame(shown, &handed_on, numbers, player, ext, output);
+        self.spoil_refusal(plan, &mut answer);
         if answer.is_accepted() {
+            let frame = Frame {
+                shown,
+                plan,
+                numbers,
+                ext,
+            };
+            self.spoil_held(frame, player, output);
             self.spoil_player(&before, player);
             self.spoil_output(usize::from(plan[0]), &old, output);
         }
+        self.spoil_answer(&mut answer, ext);
         match self.fault {
-            Fault::FrameRefused if ext.is_nan() => answer.number = 10,
-            Fault::FramePlace if answer.number == 3 => answer.place += 1,
-            Fault::NineForTen if answer.number == 9 => answer.number = 10,
             Fault::RefusedFrameWrites if answer.number == 10 => output.fill(0.0),
             Fault::RefusedFrameMoves if !answer.is_accepted() => player.clock += ext,
             _ => {}
@@ -198,6 +248,9 @@ impl Evaluator for Faulty<'_> {
             Fault::TextPlace if answer.number == 11 => answer.place += 1,
             Fault::TextRefusedWrites if answer.number == 12 => plan.fill(0),
             Fault::TextCount if answer.number == 0 => answer.numbers = numbers.len(),
+            Fault::TextEndingLost if answer.number == 0 => {
+                plan.copy_from_slice(&with_endings(plan, |_| 0));
+            }
             _ => {}
         }
         answer

@@ -1,6 +1,9 @@
-//! Compares the static library with the Rust that it ports, call by call and bit for bit.
+//! Compares the static library with the Rust that it ports and with the oracle's own model, call by
+//! call and bit for bit.
 
 mod abi;
+mod ending_faults;
+mod endings;
 mod evaluator;
 mod faults;
 mod output;

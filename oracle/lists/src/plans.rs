@@ -1,5 +1,6 @@
 //! Plans of all sorts with number counts of all sorts, put to the start.
 
+use crate::endings::clip_words;
 use crate::evaluator::{Answer, Evaluator, HostPlayer};
 use crate::run::{difference, floats, same, Counts};
 use compare::generator::Generator;
@@ -57,7 +58,7 @@ fn damage(generator: &mut Generator, figure: &mut Figure) {
     // The first words say how the others are read.
     let front = if generator.below(3) == 0 { 9 } else { 999 };
     let at = place(generator, plan.len().min(front));
-    match generator.below(12) {
+    match generator.below(13) {
         0 => plan.truncate(at),
         1 => plan.insert(at.min(plan.len()), odd_word(generator)),
         2 if !plan.is_empty() => drop(plan.remove(at)),
@@ -70,8 +71,21 @@ fn damage(generator: &mut Generator, figure: &mut Figure) {
             let other = place(generator, plan.len());
             plan.swap(at, other);
         }
+        9 => damage_clips(generator, plan),
         _ if plan.is_empty() => {}
         _ => plan[at] = odd_word(generator),
+    }
+}
+
+/// Counts and endings about their limits: of several wrong ones the first decides.
+fn damage_clips(generator: &mut Generator, plan: &mut [u16]) {
+    let places: Vec<usize> = clip_words(plan).collect();
+    if places.is_empty() {
+        return;
+    }
+    for _ in 0..=generator.below(3) {
+        let word = generator.pick(&[0, 1, 2, 2, 3, 255, 4096, 4097, 65535]);
+        plan[generator.pick(&places)] = word;
     }
 }
 

@@ -169,13 +169,14 @@ fn sentence(counts: &Counts) -> String {
         calls,
         frames,
         clean,
+        held,
         begun,
         ended,
         stores,
         ..
     } = counts;
     format!(
-        "{frames} accepted frames ({clean} without NaN) in {calls} calls to {figures} figures, \
+        "{frames} accepted frames ({clean} without NaN, {held} that show a held clip) in {calls} calls to {figures} figures, \
          {begun} transitions begun, {ended} ended, {stores} players changed by the host; refused: {}",
         refusals(counts)
     )

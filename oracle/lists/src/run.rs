@@ -1,11 +1,12 @@
 //! A figure with steps, put to the evaluator and to the reference side by side.
 
+use crate::endings::Looping;
 use crate::evaluator::{Answer, Evaluator, HostPlayer, Shown};
 use crate::output::Output;
 use crate::step::{Edit, Step};
 use compare::lists::call::Call;
 use compare::lists::report::player_line;
-use compare::reference::player::Seen;
+use compare::player::Seen;
 use compare::reference::Reference;
 use compare::texts::draft::Draft;
 use compare::texts::figure::{Figure, Refusal};
@@ -34,6 +35,8 @@ pub struct Counts {
     pub frames: usize,
     /// Those in which no float was NaN.
     pub clean: usize,
+    /// Those in which a held clip shows: they would be others if all clips looped.
+    pub held: usize,
     pub begun: usize,
     pub ended: usize,
     pub stores: usize,
@@ -67,6 +70,7 @@ struct Run<'a> {
     numbers: Vec<f32>,
     player: HostPlayer,
     reference: Reference,
+    looping: Looping,
     counts: &'a mut Counts,
 }
 
@@ -94,6 +98,7 @@ impl<'a> Run<'a> {
             numbers,
             player,
             reference,
+            looping: Looping::new(figure),
             counts,
         };
         let done = run.same_answer(answer, expected);
@@ -157,9 +162,13 @@ impl<'a> Run<'a> {
             ext,
             output.slice(),
         );
-        let before = self.reference.is_running();
+        let before = self.reference.player();
         let expected = shown_by(&mut self.reference, call);
-        self.count_steps(before);
+        self.count_steps(before.transition.is_some());
+        if let Ok(matrices) = &expected {
+            let is_held = self.looping.differs(&before, (shown, ext), matrices);
+            self.counts.held += usize::from(is_held);
+        }
         self.same_frame(answer, expected, &output)
     }
 

@@ -16,7 +16,9 @@ pub fn smaller_drafts(draft: &Draft) -> Vec<Draft> {
     let mut drafts: Vec<Draft> = states.clone().filter_map(|i| no_state(draft, i)).collect();
     drafts.extend(joints.filter_map(|i| no_joint(draft, i)));
     drafts.extend(clips.clone().filter_map(|i| no_clip(draft, i)));
-    drafts.extend(clips.filter_map(|i| one_sample(draft, i)));
+    for count in [1, 2] {
+        drafts.extend(clips.clone().filter_map(|i| first_samples(draft, i, count)));
+    }
     for i in states {
         drafts.extend(smaller_trees(draft, i));
         for transition in 0..draft.states[i].transitions.len() {
@@ -102,16 +104,17 @@ fn no_clip(draft: &Draft, gone: usize) -> Option<Draft> {
     Some(fewer)
 }
 
-fn one_sample(draft: &Draft, clip: usize) -> Option<Draft> {
-    if draft.clips[clip].samples <= 1 {
+/// With so many samples of a clip that has more.
+fn first_samples(draft: &Draft, clip: usize, count: u16) -> Option<Draft> {
+    if draft.clips[clip].samples <= count {
         return None;
     }
     let mut fewer = draft.clone();
     let poses = poses_of(draft, clip);
     fewer
         .poses
-        .drain(poses.start + draft.parents.len()..poses.end);
-    fewer.clips[clip].samples = 1;
+        .drain(poses.start + usize::from(count) * draft.parents.len()..poses.end);
+    fewer.clips[clip].samples = count;
     Some(fewer)
 }
 
@@ -144,9 +147,9 @@ fn subtree(nodes: &[[u16; 4]], root: usize) -> Vec<[u16; 4]> {
     (0..=root).filter(|&i| used[i]).map(renumbered).collect()
 }
 
-/// With poses as the identity, or with a number as a plainer one.
+/// With a looping clip for a stopping one, poses as the identity, or with a number as a plainer one.
 pub fn plainer_drafts(draft: &Draft) -> Vec<Draft> {
-    let mut drafts = Vec::new();
+    let mut drafts = looping_drafts(draft);
     let mut plain = draft.clone();
     plain.poses.fill(IDENTITY);
     if plain.poses != draft.poses {
@@ -169,6 +172,16 @@ pub fn plainer_drafts(draft: &Draft) -> Vec<Draft> {
         }
     }
     drafts
+}
+
+fn looping_drafts(draft: &Draft) -> Vec<Draft> {
+    let stopping = (0..draft.clips.len()).filter(|&clip| draft.clips[clip].ending != 0);
+    let looping = |clip: usize| {
+        let mut plainer = draft.clone();
+        plainer.clips[clip].ending = 0;
+        plainer
+    };
+    stopping.map(looping).collect()
 }
 
 /// All numbers, those of poses only where these are few. The identity is plain already.
@@ -203,6 +216,17 @@ mod tests {
                 assert!(check(&smaller.figure()).is_ok());
                 assert!(size(&smaller) < size(&draft));
             }
+        }
+    }
+
+    #[test]
+    fn a_plainer_figure_has_one_stopping_clip_less() {
+        let mut generator = Generator::new(7);
+        for draft in (0..60).map(|_| accepted(&mut generator)) {
+            let stops = |draft: &Draft| draft.clips.iter().filter(|clip| clip.ending > 0).count();
+            let plainer = looping_drafts(&draft);
+            assert_eq!(plainer.len(), stops(&draft));
+            assert!(plainer.iter().all(|one| stops(one) + 1 == stops(&draft)));
         }
     }
 

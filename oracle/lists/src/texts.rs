@@ -101,7 +101,7 @@ pub fn same_reading(
     );
     same(
         "the greatest lengths",
-        &(2869, reading.text.len() / 9),
+        &(2885, reading.text.len() / 9),
         &most,
     )
 }

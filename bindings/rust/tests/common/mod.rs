@@ -54,7 +54,7 @@ impl Random {
 /// The example figures that the program shows, as texts.
 pub fn example_texts() -> Vec<Vec<u8>> {
     let folder = concat!(env!("CARGO_MANIFEST_DIR"), "/../../examples");
-    let names = ["printed", "arm", "hand", "signs", "pause"];
+    let names = ["printed", "arm", "hand", "signs", "pause", "held"];
     let path = |name: &&str| format!("{folder}/{name}.figure");
     names
         .iter()
@@ -67,7 +67,7 @@ pub fn two_states() -> (Vec<u16>, Vec<f32>) {
     let plan = vec![
         2, 1, 1, 2, 0, // J C P S I
         255, 0, // parents
-        1, // N
+        1, 0, // N, ending
         3, 0, 0, 0, 0, 0, 0, 0, 0, 1, 0, 1, 0, // K and nodes of state 0
         1, 0, 2, 1, // T, and to state 1 where parameter 0 is greater than ..
         1, 0, 0, 0, 0, 0, // K, node and T of state 1
@@ -132,7 +132,9 @@ pub fn random_figure(random: &mut Random) -> Figure {
         plan.push(if parent == joint { 255 } else { parent as u16 });
     }
     let samples: Vec<usize> = (0..clips).map(|_| random.between(1, 4)).collect();
-    plan.extend(samples.iter().map(|count| *count as u16));
+    for count in &samples {
+        plan.extend([*count as u16, random.below(2) as u16]);
+    }
     let mut count = clips + 8 * joints * samples.iter().sum::<usize>();
     for _ in 0..states {
         let (words, transitions) = state(random, clips, parameters, states);
@@ -140,7 +142,7 @@ pub fn random_figure(random: &mut Random) -> Figure {
         count += 2 * transitions;
     }
     let numbers = (0..count).map(|_| random.float()).collect();
-    Figure::new(plan, numbers).expect("a figure as document 01 has it")
+    Figure::new(plan, numbers).expect("a figure as documents 01 and 02 have it")
 }
 
 /// A player with any content; mostly one with a state that a figure may have.

@@ -1,17 +1,13 @@
 -- `layout::sample_count` meets its contract: the check has seen that the word is there. Assumes nothing.
 use mathlib.Core.Path.{_≡_, ap, _∙_}
-use native.Mathlib.Omega.{arith}
 use Rattle.model.specs.Plan.{word, sampleCountAt, sampleCount}
-use Rattle.model.specs.Laws.Passed.{sample-count-there, few-joints, few-clips}
-use Rattle.layout.proofs.Laws.{joints-found}
+use Rattle.model.specs.Laws.Passed.{sample-count-there}
+use Rattle.layout.proofs.Laws.{joints-found, clip-small}
 use Rattle.layout.proofs.sample_count.Statement.{statement}
 use Rattle.layout.proofs.sample_count.Tie as tie
 
 sample-count-at-requires : tie.Need-sample-count-at-requires
-sample-count-at-requires c κs =
-    let ok = c .before .pre .0 in
-    let j = joints-found _ (c .before .pre .1) in
-    (omega (arith, j, few-joints _ (ok .numbers) (ok .passed)), omega (arith, few-clips _ (ok .numbers) (ok .passed)))
+sample-count-at-requires c κs = let p = c .before .pre in clip-small (p .0) (p .1) (p .2)
 
 place : (c : tie.After-sample-count-at) → let s = c .before .before in c .sample-count-at .result ≡ sampleCountAt (s .args .plan .now) (s .args .c)
 place c = let s = c .before .before in c .sample-count-at .ensures _ (joints-found _ (s .pre .1))

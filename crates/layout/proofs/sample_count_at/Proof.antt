@@ -9,4 +9,4 @@ unfolding sampleCountAt
 returns c plan e = rw e
 
 pub sample-count-at-spec : {M : Type 1} → statement M
-sample-count-at-spec = tie.close (tie.spec (search needs) (search needs) returns)
+sample-count-at-spec = tie.close (tie.spec (search needs) (search needs) (search needs) returns)

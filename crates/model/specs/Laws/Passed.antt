@@ -8,8 +8,8 @@ use lib.ListN.{length}
 use lib.Dec.{ltb}
 use borrow.Author.Tests.{ltb-true, eqb-true}
 use Rattle.model.specs.Answers.{accepted, each}
-use Rattle.model.specs.Plan.{maxJoints, maxClips, maxParameters, maxStates, maxSamples, maxTransitions, jointCount, clipCount, parameterCount, stateCount, initialState, initialStateAt, parentAt, parent, isRoot, sampleCountAt, sampleCount, nodeCount, clipNodesAmong, clipNodesBefore, transitionCount, transitionsBefore, numbersLength}
-use Rattle.model.specs.Check.{check, checkHeader, checkParent, checkSampleCount, checkState}
+use Rattle.model.specs.Plan.{maxJoints, maxClips, maxParameters, maxStates, maxSamples, maxTransitions, jointCount, clipCount, parameterCount, stateCount, initialState, initialStateAt, parentAt, parent, isRoot, sampleCountAt, sampleCount, endingAt, nodeCount, clipNodesAmong, clipNodesBefore, transitionCount, transitionsBefore, numbersLength}
+use Rattle.model.specs.Check.{check, checkHeader, checkParent, checkClip, checkState}
 use Rattle.model.specs.Laws.Header as header
 use Rattle.model.specs.Laws.Answers.{then-left, then-right, each-at, require-true}
 use Rattle.model.specs.Laws.Tests.{word-true, word-there, or-right, within-low, within-high}
@@ -28,9 +28,9 @@ module _ (plan : List ℕ) (n : ℕ) (ok : check plan n ≡ accepted) where
   unfolding check
   parents-passed = then-right _ _ (then-left _ _ (then-left _ _ (then-left _ _ (then-left _ _ ok))))
 
-  counts-passed : each (clipCount plan) (checkSampleCount plan) ≡ accepted
+  clips-passed : each (clipCount plan) (checkClip plan) ≡ accepted
   unfolding check
-  counts-passed = then-right _ _ (then-left _ _ (then-left _ _ (then-left _ _ ok)))
+  clips-passed = then-right _ _ (then-left _ _ (then-left _ _ (then-left _ _ ok)))
 
   states-passed : each (stateCount plan) (checkState plan) ≡ accepted
   unfolding check
@@ -45,12 +45,12 @@ module _ (plan : List ℕ) (n : ℕ) (ok : check plan n ≡ accepted) where
   parent-earlier j h e = ltb-true _ _ (or-right (isRoot plan j) (ltb (parent plan j) j) (word-true _ _ _ _ (each-at _ _ parents-passed j h)) e)
 
   pub some-samples : (c : ℕ) → c < clipCount plan → 0 < sampleCount plan c
-  unfolding checkSampleCount
-  some-samples c h = within-low _ _ _ (word-true _ _ _ _ (each-at _ _ counts-passed c h))
+  unfolding checkClip
+  some-samples c h = within-low _ _ _ (word-true _ _ _ _ (then-left _ _ (each-at _ _ clips-passed c h)))
 
   pub few-samples : (c : ℕ) → c < clipCount plan → sampleCount plan c ≤ maxSamples
-  unfolding checkSampleCount
-  few-samples c h = within-high _ _ _ (word-true _ _ _ _ (each-at _ _ counts-passed c h))
+  unfolding checkClip
+  few-samples c h = within-high _ _ _ (word-true _ _ _ _ (then-left _ _ (each-at _ _ clips-passed c h)))
 
   pub state-passed : (s : ℕ) → s < stateCount plan → checkState plan s ≡ accepted
   state-passed s below = each-at _ _ states-passed s below
@@ -78,8 +78,12 @@ module _ (plan : List ℕ) (n : ℕ) (ok : check plan n ≡ accepted) where
   parent-there j h = word-there _ _ _ _ (each-at _ _ parents-passed j h)
 
   pub sample-count-there : (c : ℕ) → c < clipCount plan → sampleCountAt plan c < length plan
-  unfolding checkSampleCount
-  sample-count-there c h = word-there _ _ _ _ (each-at _ _ counts-passed c h)
+  unfolding checkClip
+  sample-count-there c h = word-there _ _ _ _ (then-left _ _ (each-at _ _ clips-passed c h))
+
+  pub ending-there : (c : ℕ) → c < clipCount plan → endingAt plan c < length plan
+  unfolding checkClip
+  ending-there c h = word-there _ _ _ _ (then-right _ _ (each-at _ _ clips-passed c h))
 
   -- sums over the states
   pub few-transitions-before : (s : ℕ) → s ≤ stateCount plan → transitionsBefore plan s ≤ s * maxTransitions

@@ -1,5 +1,5 @@
 -- Every reading uses up text: two bytes a word, nine a number. So a text says how long slices for its figure need to be.
-use Prim.Native.Nat.{ℕ, zero, suc, _+_, _-_, _*_, _≤_}
+use Prim.Native.Nat.{ℕ, zero, suc, _+_, _*_, _≤_}
 use native.Mathlib.Omega.{arith}
 use mathlib.Core.Path.{_≡_, refl, subst}
 use mathlib.Core.Bool.{Bool, true, false, cond}
@@ -77,9 +77,9 @@ unfolding readFigure
 uses-figure s =
     uses-then s (readLine Figure s) _ (uses-line Figure s) (λ header s₁.
     uses-then s₁ (times (jointCount header) (readLine Joint) s₁) _ (uses-times (jointCount header) (readLine Joint) s₁ (uses-line Joint)) (λ _ s₂.
-    uses-then s₂ (times (clipCount header) (readLine Clip) s₂) _ (uses-times (clipCount header) (readLine Clip) s₂ (uses-line Clip)) (λ samples s₃.
+    uses-then s₂ (times (clipCount header) (readLine Clip) s₂) _ (uses-times (clipCount header) (readLine Clip) s₂ (uses-line Clip)) (λ clips s₃.
     uses-then s₃ (times (stateCount header) readState s₃) _ (uses-times (stateCount header) readState s₃ uses-state) (λ _ s₄.
-    uses-then s₄ (times (poseCount header samples) (readLine Pose) s₄) _ (uses-times (poseCount header samples) (readLine Pose) s₄ (uses-line Pose)) (λ _ s₅.
+    uses-then s₄ (times (poseCount header clips) (readLine Pose) s₄) _ (uses-times (poseCount header clips) (readLine Pose) s₄ (uses-line Pose)) (λ _ s₅.
     uses-end s₅)))))
 
 pub figure-fits : (text ws bs rest : List ℕ) (n : ℕ) → readFigure text ≡ got ws bs rest n → 2 * length ws + 9 * length bs ≤ length text

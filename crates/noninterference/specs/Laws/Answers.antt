@@ -9,7 +9,7 @@ use Rattle.model.specs.declared.Answer.{Answer}
 use Rattle.model.specs.declared.Answer.the-variants.{Accepted, Refused}
 use Rattle.model.specs.declared.Player.{Player}
 use Rattle.model.specs.Answers.{Verdict, accepted, refused, values, _then_, each, require}
-use Rattle.model.specs.Check.{wordIs, check, checkHeader, checkParent, checkSampleCount, checkNode, checkTransition, checkState}
+use Rattle.model.specs.Check.{wordIs, check, checkHeader, checkParent, checkClip, checkNode, checkTransition, checkState}
 use Rattle.model.specs.Controller.{frameVerdict}
 
 pub record Answerable (v : Verdict) : Type 0 where
@@ -68,9 +68,9 @@ module _ (plan : List ℕ) where
   unfolding checkParent
   parent-answerable j = word-answerable _ _ _
 
-  sample-count-answerable : (c : ℕ) → Answerable (checkSampleCount plan c)
-  unfolding checkSampleCount
-  sample-count-answerable c = word-answerable _ _ _
+  clip-answerable : (c : ℕ) → Answerable (checkClip plan c)
+  unfolding checkClip
+  clip-answerable c = then-answerable (word-answerable _ _ _) (word-answerable _ _ _)
 
   pub check-answerable : (n : ℕ) → Answerable (check plan n)
   unfolding check
@@ -78,7 +78,7 @@ module _ (plan : List ℕ) where
       then-answerable
       (then-answerable
       (then-answerable
-      (then-answerable (then-answerable header-answerable (each-answerable _ _ parent-answerable)) (each-answerable _ _ sample-count-answerable))
+      (then-answerable (then-answerable header-answerable (each-answerable _ _ parent-answerable)) (each-answerable _ _ clip-answerable))
       (each-answerable _ _ state-answerable))
       (require-answerable _ _ _))
       (require-answerable _ _ _)

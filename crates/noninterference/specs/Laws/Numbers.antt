@@ -9,9 +9,9 @@ use lib.ListN.{length}
 use lib.Ieee.{Float}
 use Rattle.model.specs.Numbers.{_*₃₂_}
 use Rattle.model.specs.Answers.{accepted}
-use Rattle.model.specs.Plan.{clipCount, stateCount, transitionCount, sampleCount, NumberName, Rate, Value, Duration, PoseFloat, numberAt, number, samplePose}
+use Rattle.model.specs.Plan.{clipCount, stateCount, transitionCount, sampleCount, isStopping, NumberName, Rate, Value, Duration, PoseFloat, numberAt, number, samplePose}
 use Rattle.model.specs.Check.{check}
-use Rattle.model.specs.Clips.{firstIndex, secondIndex, duration, poseAt, clipPose}
+use Rattle.model.specs.Clips.{firstIndex, secondIndex, sampledPosition, duration, poseAt, clipPose}
 use Rattle.model.specs.Unseen.{Reachable, Played, plays, HasNumber, Unseen}
 use Rattle.model.specs.Laws.Passed.{numbers-fit, some-samples, state-passed, reachable-below}
 use Rattle.model.specs.Laws.State.{clip-below}
@@ -74,5 +74,5 @@ module _ (plan chosen : List ℕ) (a b : List Float) (ok : check plan (length a)
     unfolding clipPose poseAt firstIndex secondIndex
     clip-same local =
         let n : 0 < sampleCount plan c = some-samples plan (length a) ok c (played-below p) in
-        let x = local *₃₂ number plan b (Rate c) in
+        let x = sampledPosition (isStopping plan c) (sampleCount plan c) (local *₃₂ number plan b (Rate c)) in
         rw (rate-same p, sample-same (firstIndex (sampleCount plan c) x) (mod-lt _ n), sample-same (secondIndex (sampleCount plan c) x) (mod-lt _ n))

@@ -2,12 +2,13 @@
 use borrow.Author.Needs.{needs}
 use Prim.Native.Nat.{_<_}
 use native.Mathlib.Omega.{arith}
-use mathlib.Core.Path.{_≡_, sym, _∙_}
+use mathlib.Core.Path.{_≡_, sym, ap, _∙_}
 use mathlib.Core.List.{List}
 use lib.Ieee.{Float}
 use Rattle.model.specs.Plan.{jointCount, clipCount}
 use Rattle.model.specs.Tree.{statePose}
 use Rattle.layout.proofs.Laws.{joints-found}
+use Rattle.blend_tree.specs.Sampling.{Sized, samplesAt}
 use Rattle.blend_tree.proofs.NodeLaws.{passes, clip-inside}
 use Rattle.blend_tree.proofs.SamplingLaws.{clip-sized, sampled}
 use Rattle.output_pose.proofs.JointLaws.{only-clip, instance-there, only-pose, joint-shown}
@@ -31,41 +32,47 @@ instance-at-requires c κs = let p = start c .pre in instance-there (p .0 .0) (p
 clip-at-requires : tie.Need-clip-at-requires
 clip-at-requires c κs = (start (c .before) .pre .0 .0, clip-there (c .before))
 
-clip-samples-requires : tie.Need-clip-samples-requires
-clip-samples-requires c κs =
+sized : (c : tie.After-clip-at) → Sized (c .clip-at .result)
+sized c =
     let n = c .before .before in
     clip-sized (start n .pre .0 .0) (clip-there n) (c .clip-at .ensures)
 
+clip-position-requires : tie.Need-clip-position-requires
+clip-position-requires c κs = sized c
+
+clip-samples-requires : tie.Need-clip-samples-requires
+clip-samples-requires c κs = sized (c .before)
+
 joint-pose-requires : tie.Need-joint-pose-requires
 joint-pose-requires c κs =
-    let k = c .before in
+    let k = c .before .before in
     let n = k .before .before in
     let p = start n .pre in
     (sampled (p .0 .0) (clip-there n) _ (k .clip-at .ensures) (c .clip-samples .ensures), omega (arith, p .1))
 
 calculate-root-pose-requires : tie.Need-calculate-root-pose-requires
 calculate-root-pose-requires c κs =
-    let n = c .before .before .before .before .before in
+    let n = c .before .before .before .before .before .before in
     omega (arith, one-joint n, start n .pre .3)
 
 -- the pose, whatever the parameters are
 shown : (c : tie.After-joint-pose)
-    → let a = start (c .before .before .before .before) .args in
+    → let a = start (c .before .before .before .before .before) .args in
     (parameters : List Float) → c .joint-pose .result ≡ statePose (a .plan .now) (a .numbers .now) parameters (a .state .time) (a .state .here .state) (a .instances .now) 0
 shown c parameters =
     let p = c .before in
-    let k = p .before in
+    let k = p .before .before in
     let n = k .before .before in
     let r = start n .pre in
-    c .joint-pose .ensures ∙ only-pose (r .0 .0) (r .0 .1) (r .2) (n .node-at .ensures) _ _ (k .before .instance-at .ensures) (k .clip-at .ensures) (p .clip-samples .ensures) parameters 0
+    c .joint-pose .ensures ∙ only-pose (r .0 .0) (r .0 .1) (r .2) (n .node-at .ensures) _ _ (k .before .instance-at .ensures) (k .clip-at .ensures) (p .clip-samples .ensures ∙ ap (samplesAt _) (p .before .clip-position .ensures)) parameters 0
 
 returns : tie.Need-returns
 returns c =
     let d = c .before .before in
     let j = d .before .before in
-    joint-shown _ _ _ _ _ _ _ _ (one-joint (j .before .before .before .before)) (shown j) (d .calculate-root-pose .ensures)
+    joint-shown _ _ _ _ _ _ _ _ (one-joint (j .before .before .before .before .before)) (shown j) (d .calculate-root-pose .ensures)
 
 pub show-joint-spec : {M : Type 1} → statement M
 show-joint-spec =
     tie.close
-    (tie.spec (λ c κs. search needs) instance-at-requires clip-at-requires clip-samples-requires joint-pose-requires calculate-root-pose-requires (search needs) returns)
+    (tie.spec (λ c κs. search needs) instance-at-requires clip-at-requires clip-position-requires clip-samples-requires joint-pose-requires calculate-root-pose-requires (search needs) returns)

@@ -3,9 +3,9 @@ use borrow.Author.Tests.{lt-leb, le-leb, eq-eqb, ne-eqb}
 use native.Mathlib.Omega.{arith}
 use mathlib.Core.Path.{refl}
 use Rattle.model.specs.Answers.{_then_, require}
-use Rattle.layout.proofs.Laws.{joints-found}
+use Rattle.layout.proofs.Laws.{joints-found, clips-found}
 use Rattle.plan.specs.Checked.{verdict, layoutIn}
-use Rattle.plan.proofs.Worded.{layout-small, product-small, numbers-counted}
+use Rattle.plan.proofs.Worded.{clips-there, layout-small, product-small, numbers-counted}
 use Rattle.plan.proofs.check_lengths.Statement.{statement}
 use Rattle.plan.proofs.check_lengths.Tie as tie
 
@@ -15,8 +15,10 @@ returns c = record { answer = rw (← c .before .before .pre .1, lt-leb _ _ (c .
 
 samples-before-requires : tie.Need-samples-before-requires
 samples-before-requires c κs =
-    let small = layout-small _ (c .before .before .before .pre .0) _ (c .laid-out .ensures) in
-    (joints-found _ (c .laid-out .ensures), omega arith, omega arith)
+    let ok = c .before .before .before .pre .0 in
+    let found = c .laid-out .ensures in
+    let small = layout-small _ ok _ found in
+    (joints-found _ found, omega arith, omega arith, rw (clips-found _ found) (clips-there _ ok))
 
 mul-if2 : tie.Need-mul-if2
 mul-if2 c =

@@ -1,12 +1,12 @@
 -- `plan::check_words` meets its contract: four parts in the definition's order; a header that passed bounds the counts. Assumes nothing.
 use borrow.Author.Needs.{needs}
 use native.Mathlib.Omega.{arith}
-use Prim.Native.Nat.{ℕ, _+_, _≤_}
+use Prim.Native.Nat.{ℕ, _≤_}
 use mathlib.Core.Path.{_≡_, ap, _∙_}
 use mathlib.Core.List.{List}
 use Rattle.model.specs.Answers.{accepted, values, _then_, each}
-use Rattle.model.specs.Plan.{maxJoints, maxClips, parentAt, jointCount, clipCount, parameterCount, stateCount, sampleCountAt, stateAt, planEnd}
-use Rattle.model.specs.Check.{checkHeader, checkParent, checkSampleCount}
+use Rattle.model.specs.Plan.{maxStatesAt, jointCount, clipCount, parameterCount, stateCount, sampleCountAt, stateAt, planEnd}
+use Rattle.model.specs.Check.{checkHeader, checkParent, checkClip}
 use Rattle.model.specs.Laws.Header as header
 use Rattle.plan.specs.Parts.{checkWords}
 use Rattle.plan.proofs.Laws.{stops, goes, passed}
@@ -15,7 +15,7 @@ use Rattle.plan.proofs.check_words.Statement.{statement}
 use Rattle.plan.proofs.check_words.Tie as tie
 
 -- where the first state begins
-states-begin : (plan : List ℕ) → checkHeader plan ≡ accepted → (at : ℕ) → at ≡ sampleCountAt plan (clipCount plan) → at ≤ parentAt maxJoints + maxClips
+states-begin : (plan : List ℕ) → checkHeader plan ≡ accepted → (at : ℕ) → at ≡ sampleCountAt plan (clipCount plan) → at ≤ maxStatesAt
 unfolding sampleCountAt
 states-begin plan ok at e = omega (arith, e, header.few-joints plan ok, header.few-clips plan ok)
 
@@ -28,13 +28,13 @@ up-to-parents c =
     let h = c .before .before in
     goes _ _ _ _ (h .enum-told .given .1) (h .before .before .check-header .ensures) (rw (c .before .word .ensures .0) at (c .check-parents .ensures))
 
-up-to-sample-counts : (c : tie.After-check-sample-counts)
+up-to-clips : (c : tie.After-check-clips)
     → let plan = c .before .before .before .before .before .before .before .before .before .before .args .plan .now in
-    values (c .check-sample-counts .result) ≡ checkHeader plan then each (jointCount plan) (checkParent plan) then each (clipCount plan) (checkSampleCount plan)
+    values (c .check-clips .result) ≡ checkHeader plan then each (jointCount plan) (checkParent plan) then each (clipCount plan) (checkClip plan)
 unfolding clipCount
-up-to-sample-counts c =
+up-to-clips c =
     let p = c .before .before in
-    goes _ _ _ _ (p .enum-told3 .given .1) (up-to-parents (p .before .before)) (rw (c .before .word2 .ensures .0) at (c .check-sample-counts .ensures))
+    goes _ _ _ _ (p .enum-told3 .given .1) (up-to-parents (p .before .before)) (rw (c .before .word2 .ensures .0) at (c .check-clips .ensures))
 
 returns : tie.Need-returns
 unfolding checkWords
@@ -46,15 +46,15 @@ returns-2 : tie.Need-returns-2
 unfolding checkWords
 returns-2 c = let t = c .before .match2 .keys2 in words-refuse _ _ t (stops _ _ _ t (stops _ _ _ t (up-to-parents (c .before .before))))
 
-check-sample-counts-requires : tie.Need-check-sample-counts-requires
+check-clips-requires : tie.Need-check-clips-requires
 unfolding jointCount
-check-sample-counts-requires c κs =
+check-clips-requires c κs =
     let w = c .before .before .before .before in
     (w .word .ensures .0, w .word .ensures .1, c .word2 .ensures .1)
 
 returns-3 : tie.Need-returns-3
 unfolding checkWords
-returns-3 c = let t = c .before .match3 .keys2 in words-refuse _ _ t (stops _ _ _ t (up-to-sample-counts (c .before .before)))
+returns-3 c = let t = c .before .match3 .keys2 in words-refuse _ _ t (stops _ _ _ t (up-to-clips (c .before .before)))
 
 check-states-requires : tie.Need-check-states-requires
 unfolding jointCount clipCount parameterCount stateCount stateAt
@@ -76,7 +76,7 @@ unfolding checkWords stateCount planEnd
 returns-4 c =
     let d = c .before .before .before .before in
     let states = rw (c .before .before .word4 .ensures .0) at (c .check-states .ensures) in
-    record { answer = goes _ _ _ _ (d .enum-told5 .given .1) (up-to-sample-counts (d .before .before)) (states .answer); end = states .end; transitions = states .transitions }
+    record { answer = goes _ _ _ _ (d .enum-told5 .given .1) (up-to-clips (d .before .before)) (states .answer); end = states .end; transitions = states .transitions }
 
 pub check-words-spec : {M : Type 1} → statement M
 check-words-spec =
@@ -92,7 +92,7 @@ check-words-spec =
     (search needs)
     returns-2
     (search needs)
-    check-sample-counts-requires
+    check-clips-requires
     (search needs)
     (search needs)
     returns-3

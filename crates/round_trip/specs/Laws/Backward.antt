@@ -10,7 +10,7 @@ use Rattle.model.specs.Plan.{maxSamples, maxNodes, maxTransitions, word, jointC
 use Rattle.model.specs.Text.{front, forms, wordsIn, bitsIn, Reading, bad, got, prefixed, andThen, times, readLine, fromState, readState, readEnd, readFigure}
 use Rattle.model.specs.Program.{part, lineText, stateText, figureText}
 use Rattle.round_trip.specs.Laws.Lines.{Within, line-written}
-use Rattle.round_trip.specs.Laws.Parts.{Holds, part-one, holds-all}
+use Rattle.round_trip.specs.Laws.Parts.{Holds, part-one, part-two, holds-all}
 use Rattle.round_trip.specs.Laws.Rows.{WithinAt}
 use Rattle.round_trip.specs.Laws.Shape.{numbersAt, joint-row, clip-row, node-row, go-row, pose-row, header, nodes, transitions, states, state-text, figure-text, joints-same, clips-same, states-same, samples-same}
 use Rattle.round_trip.specs.Laws.Writes.{Undone, bad-got, prefixed-cases, undone-none, undone-behind, undone-prefixed, undone-then, undone-map, undone-text, undone-moved, undone-times, undone-line, undone-row, undone-lines}
@@ -65,7 +65,7 @@ ends-then (got ws₁ bs₁ s m) next later ws bs r n e = prefixed-cases (λ us v
 pub ends-figure : (text : List ℕ) → Ends (readFigure text)
 unfolding readFigure
 ends-figure text =
-    ends-then _ _ (λ header s₁. ends-then _ _ (λ _ s₂. ends-then _ _ (λ samples s₃. ends-then _ _ (λ _ s₄. ends-then _ _ (λ _. ends-end)))))
+    ends-then _ _ (λ header s₁. ends-then _ _ (λ _ s₂. ends-then _ _ (λ _ s₃. ends-then _ _ (λ _ s₄. ends-then _ _ (λ _. ends-end)))))
 
 module _ (plan bits : List ℕ) where
   at-word : (a k : ℕ) → Holds plan a (k ∷ []) → k ≡ word plan a
@@ -158,7 +158,7 @@ module _ (plan bits : List ℕ) where
   unfolding forms wordsIn bitsIn sampleCount word
   limits-of f = record {
     header = f .0;
-    samples = λ c h. omega (arith, f .1 .1 .0 c h .0, ap front (part-one plan (sampleCountAt plan c)));
+    samples = λ c h. omega (arith, f .1 .1 .0 c h .0, ap front (part-two plan (sampleCountAt plan c)));
     states = f .1 .1 .1 .0;
   }
 
@@ -173,8 +173,8 @@ module _ (plan bits : List ℕ) where
       rw (joints-same plan words h five, clips-same plan words h five, states-same plan words h five)
       (undone-then plan bits _ _ s₁ _ _ _ (parentAt (jointCount plan)) _ _ 0 _ (undone-lines plan bits (joint-row plan) s₁)
       (λ _ s₂ _ _. undone-then plan bits _ _ s₂ _ _ _ (stateAt plan 0) _ _ (clipCount plan) _ (undone-row plan bits (clip-row plan) s₂)
-      (λ samples s₃ g count. undone-then plan bits _ _ s₃ _ _ _ (planEnd plan) _ _ (posesAt plan) _ (undone-states s₃)
+      (λ words s₃ g count. undone-then plan bits _ _ s₃ _ _ _ (planEnd plan) _ _ (posesAt plan) _ (undone-states s₃)
       (λ _ s₄ _ _.
-      rw (samples-same plan samples g (omega arith))
+      rw (samples-same plan words g (omega arith))
       (undone-then plan bits _ _ s₄ _ [] _ (planEnd plan) _ _ (numbersLength plan) _ (undone-lines plan bits (pose-row plan) s₄)
       (λ _ s₅ _ _. undone-end s₅ (planEnd plan) (numbersLength plan))))))))))

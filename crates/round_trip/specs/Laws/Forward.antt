@@ -1,19 +1,19 @@
 -- The text of a figure whose counts are within the limits is read to that figure.
-use Prim.Native.Nat.{ℕ, suc, _≤_, _<_}
+use Prim.Native.Nat.{ℕ, suc, _+_, _*_, _≤_, _<_}
 use native.Mathlib.Omega.{arith}
 use mathlib.Core.Path.{_≡_, refl}
 use mathlib.Core.List.{List, [], _∷_, _++_, append-assoc}
 use lib.ListN.{length, getD}
 use Rattle.model.specs.declared.LineKind.{LineKind}
 use Rattle.model.specs.declared.LineKind.the-variants.{Figure, Joint, Clip, State, Node, Go, Pose}
-use Rattle.model.specs.Plan.{word, jointCount, clipCount, parameterCount, stateCount, parentAt, sampleCountAt, sampleCount, stateAt, nodeCount, kindAt, transitionCountAt, transitionCount, conditionParameterAt, planEnd, total, transitionsBefore, posesAt, numbersLength}
+use Rattle.model.specs.Plan.{clipWords, word, jointCount, clipCount, parameterCount, stateCount, parentAt, sampleCountAt, sampleCount, stateAt, nodeCount, kindAt, transitionCountAt, transitionCount, conditionParameterAt, planEnd, total, transitionsBefore, posesAt, numbersLength}
 use Rattle.model.specs.Text.{maxWord, forms, wordsIn, bitsIn, times, fromState, readState, readEnd, readFigure}
 use Rattle.model.specs.Program.{part, lineText, stateText, figureText}
 use Rattle.round_trip.specs.Counted.{Counted}
 use Rattle.round_trip.specs.Laws.Fields.{maxPattern}
 use Rattle.model.specs.Laws.Text.{EachLimit}
 use Rattle.round_trip.specs.Laws.Lines.{most-part, any-within, line-read}
-use Rattle.round_trip.specs.Laws.Parts.{part-one, spans-one, spans-none}
+use Rattle.round_trip.specs.Laws.Parts.{part-one, part-two, spans-one, spans-none}
 use Rattle.round_trip.specs.Laws.Rows.{WithinAt}
 use Rattle.round_trip.specs.Laws.Shape.{numbersAt, goNumbersAt, posePlace, joint-row, clip-row, node-row, go-row, pose-row, joints, clips, counts, nodes, transitions, states, poses, state-text, figure-text, joints-same, clips-same, states-same, samples-same}
 use Rattle.round_trip.specs.Laws.Reads.{Got, got-none, got-prefixed, got-then, got-moved, got-times, got-line, got-row}
@@ -30,7 +30,7 @@ module _ (plan bits : List ℕ) (ok : Counted plan bits) where
 
   clip-fits : (c : ℕ) → c < clipCount plan → WithinAt plan bits Clip (sampleCountAt plan c) c
   unfolding forms wordsIn bitsIn sampleCount word
-  clip-fits c h = rw (part-one plan (sampleCountAt plan c), part-one bits c) (ok .counts .samples c h, (pattern-most c, tt))
+  clip-fits c h = rw (part-two plan (sampleCountAt plan c), part-one bits c) (ok .counts .samples c h, (pattern-most c, (ok .counts .words (sampleCountAt plan c + 1), tt)))
 
   -- those whose words may be any
   any-fits : (kind : LineKind) (a c : ℕ) → EachLimit (λ limit. maxWord ≤ limit) (forms kind) → WithinAt plan bits kind a c
@@ -68,13 +68,13 @@ module _ (plan bits : List ℕ) (ok : Counted plan bits) where
       let header = got-line plan bits Figure 0 (parentAt 0) 0 0 header-fits refl refl (joints plan bits ++ after-joints) in
       let h = header .in-plan .same in
       let five : length (header .words) ≡ 5 = omega (arith, header .in-plan .end) in
-      let samples = got-row plan bits (clip-row plan) clip-fits after-clips in
-      let count : length (samples .words) ≡ clipCount plan = omega (arith, samples .in-plan .end) in
+      let words = got-row plan bits (clip-row plan) clip-fits after-clips in
+      let count : length (words .words) ≡ clipWords * clipCount plan = omega (arith, words .in-plan .end) in
       rw (figure-text plan bits)
       (got-then plan bits _ header
       (rw (joints-same plan (header .words) h five, clips-same plan (header .words) h five, states-same plan (header .words) h five)
       (got-then plan bits _ (got-row plan bits (joint-row plan) (λ j _. any-fits Joint (parentAt j) 0 (omega arith)) after-joints)
-      (got-then plan bits _ samples
+      (got-then plan bits _ words
       (got-then plan bits _ (got-states after-states)
-      (rw (samples-same plan (samples .words) (samples .in-plan .same) count)
+      (rw (samples-same plan (words .words) (words .in-plan .same) count)
       (got-then plan bits _ (got-row plan bits (pose-row plan) (λ m _. any-fits Pose (planEnd plan) (posePlace plan m) tt) []) (got-none plan bits [] (planEnd plan) (numbersLength plan)))))))))

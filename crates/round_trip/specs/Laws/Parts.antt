@@ -88,6 +88,10 @@ pub part-one : (xs : List ℕ) (a : ℕ) → part xs a 1 ≡ getD xs a 0 ∷ []
 unfolding part
 part-one xs a = rw add-zero
 
+pub part-two : (xs : List ℕ) (a : ℕ) → part xs a 2 ≡ getD xs a 0 ∷ getD xs (a + 1) 0 ∷ []
+unfolding part
+part-two xs a = rw add-zero
+
 pub spans-one : (xs : List ℕ) (a : ℕ) → Spans xs a (a + 1) (getD xs a 0 ∷ [])
 spans-one xs a = record { same = part-one xs a; end = refl }
 

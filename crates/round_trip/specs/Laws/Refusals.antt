@@ -2,16 +2,16 @@
 use Prim.Native.Nat.{ℕ, zero, suc, _+_, _-_, _*_, _≤_, _<_}
 use native.Mathlib.Omega.{arith}
 use native.Mathlib.Nat.{add-zero}
-use mathlib.Core.Path.{_≡_, ap}
+use mathlib.Core.Path.{_≡_, refl, ap}
 use mathlib.Core.Bool.{Bool, true, false}
 use mathlib.Core.List.{List}
 use lib.ListN.{length}
 use lib.Dec.{leb, eqb}
 use borrow.Author.Tests.{lt-ltb, le-leb, eq-eqb}
 use Rattle.model.specs.Answers.{Verdict, accepted, refused, _then_, each, require}
-use Rattle.model.specs.Plan.{parentAt, jointCount, clipCount, stateCount, sampleCountAt, afterNodes, afterTransitions, stateAt, nodeCount, kindAt, transitionCountAt, transitionCount, conditionParameterAt, planEnd, numbersLength}
-use Rattle.model.specs.Check.{wordIs, checkHeader, checkParent, checkSampleCount, checkNode, checkTransition, checkState, check}
-use Rattle.round_trip.specs.RoundTrip.{ofContent}
+use Rattle.model.specs.Plan.{parentAt, jointCount, clipCount, stateCount, sampleCountAt, endingAt, afterNodes, afterTransitions, stateAt, nodeCount, kindAt, transitionCountAt, transitionCount, conditionParameterAt, planEnd, numbersLength}
+use Rattle.model.specs.Check.{within, wordIs, checkHeader, checkParent, checkClip, checkNode, checkTransition, checkState, check}
+use Rattle.round_trip.specs.RoundTrip.{isOfContent, ofContent}
 
 -- ---- rows of checks
 
@@ -26,15 +26,15 @@ all zero f ok = tt
 all (suc n) f ok = and-then (each n f) (f n) (all n f (λ i h. ok i (omega arith))) (ok n (omega arith))
 
 -- a check of a word's content, by its number
-test : (ok : Bool) (number place : ℕ) → 2 ≤ number → number ≤ 5 → ofContent (require ok number place)
+test : (ok : Bool) (number place : ℕ) → isOfContent number ≡ true → ofContent (require ok number place)
 unfolding require ofContent
-test true number place l h = tt
-test false number place l h = record { some = l; most = h }
+test true number place h = tt
+test false number place h = h
 
 module _ (plan : List ℕ) where
-  word-test : (number place : ℕ) (ok : Bool) → place < length plan → 2 ≤ number → number ≤ 5 → ofContent (wordIs plan number place ok)
+  word-test : (number place : ℕ) (ok : Bool) → place < length plan → isOfContent number ≡ true → ofContent (wordIs plan number place ok)
   unfolding wordIs require _then_
-  word-test number place ok there l h = rw (lt-ltb place (length plan) there) (test ok number place l h)
+  word-test number place ok there h = rw (lt-ltb place (length plan) there) (test ok number place h)
 
   -- ---- places
 
@@ -62,18 +62,19 @@ module _ (plan : List ℕ) where
     -- ---- the check
 
     header-of : ofContent (checkHeader plan)
-    unfolding checkHeader sampleCountAt
+    unfolding checkHeader sampleCountAt within
     header-of =
-        let at : (place : ℕ) (ok : Bool) → place < 5 → ofContent (wordIs plan 2 place ok) = λ place ok h. word-test 2 place ok (omega (arith, clips-inside)) (omega arith) (omega arith) in
+        let at : (place : ℕ) (ok : Bool) → place < 5 → ofContent (wordIs plan 2 place ok) = λ place ok h. word-test 2 place ok (omega (arith, clips-inside)) refl in
         and-then _ _ (and-then _ _ (and-then _ _ (and-then _ _ (at 0 _ (omega arith)) (at 1 _ (omega arith))) (at 2 _ (omega arith))) (at 3 _ (omega arith))) (at 4 _ (omega arith))
 
     parent-of : (j : ℕ) → j < jointCount plan → ofContent (checkParent plan j)
-    unfolding checkParent sampleCountAt
-    parent-of j h = word-test 3 (parentAt j) _ (omega (arith, clips-inside)) (omega arith) (omega arith)
+    unfolding checkParent sampleCountAt within
+    parent-of j h = word-test 3 (parentAt j) _ (omega (arith, clips-inside)) refl
 
-    sample-count-of : (c : ℕ) → c < clipCount plan → ofContent (checkSampleCount plan c)
-    unfolding checkSampleCount sampleCountAt
-    sample-count-of c h = word-test 2 (sampleCountAt plan c) _ (omega (arith, clips-inside)) (omega arith) (omega arith)
+    clip-of : (c : ℕ) → c < clipCount plan → ofContent (checkClip plan c)
+    unfolding checkClip sampleCountAt endingAt within
+    clip-of c h =
+        and-then _ _ (word-test 2 (sampleCountAt plan c) _ (omega (arith, clips-inside)) refl) (word-test 14 (endingAt plan c) _ (omega (arith, clips-inside)) refl)
 
     module _ (s : ℕ) (below : s < stateCount plan) where
       state-places : afterNodes plan (stateAt plan s) + 1 + 3 * transitionCount plan s ≤ length plan
@@ -81,27 +82,27 @@ module _ (plan : List ℕ) where
       state-places = omega (arith, state-inside s below)
 
       node-of : (i : ℕ) → i < nodeCount plan s → ofContent (checkNode plan s i)
-      unfolding checkNode kindAt afterNodes nodeCount
+      unfolding checkNode kindAt afterNodes nodeCount within
       node-of i h =
-          let at : (k : ℕ) (ok : Bool) → k < 4 → ofContent (wordIs plan 4 (kindAt plan s i + k) ok) = λ k ok l. word-test 4 (kindAt plan s i + k) ok (omega (arith, state-places)) (omega arith) (omega arith) in
-          let first : ofContent (wordIs plan 4 (kindAt plan s i) _) = word-test 4 (kindAt plan s i) _ (omega (arith, state-places)) (omega arith) (omega arith) in
-          and-then _ _ (and-then _ _ (and-then _ _ (and-then _ _ first (test _ 2 (kindAt plan s i) (omega arith) (omega arith))) (at 1 _ (omega arith))) (at 2 _ (omega arith))) (at 3 _ (omega arith))
+          let at : (k : ℕ) (ok : Bool) → k < 4 → ofContent (wordIs plan 4 (kindAt plan s i + k) ok) = λ k ok l. word-test 4 (kindAt plan s i + k) ok (omega (arith, state-places)) refl in
+          let first : ofContent (wordIs plan 4 (kindAt plan s i) _) = word-test 4 (kindAt plan s i) _ (omega (arith, state-places)) refl in
+          and-then _ _ (and-then _ _ (and-then _ _ (and-then _ _ first (test _ 2 (kindAt plan s i) refl)) (at 1 _ (omega arith))) (at 2 _ (omega arith))) (at 3 _ (omega arith))
 
       transition-of : (t : ℕ) → t < transitionCount plan s → ofContent (checkTransition plan s t)
-      unfolding checkTransition conditionParameterAt transitionCountAt
+      unfolding checkTransition conditionParameterAt transitionCountAt within
       transition-of t h =
-          let at : (k : ℕ) (ok : Bool) → k < 3 → ofContent (wordIs plan 5 (conditionParameterAt plan s t + k) ok) = λ k ok l. word-test 5 (conditionParameterAt plan s t + k) ok (omega (arith, state-places)) (omega arith) (omega arith) in
-          let first : ofContent (wordIs plan 5 (conditionParameterAt plan s t) _) = word-test 5 (conditionParameterAt plan s t) _ (omega (arith, state-places)) (omega arith) (omega arith) in
+          let at : (k : ℕ) (ok : Bool) → k < 3 → ofContent (wordIs plan 5 (conditionParameterAt plan s t + k) ok) = λ k ok l. word-test 5 (conditionParameterAt plan s t + k) ok (omega (arith, state-places)) refl in
+          let first : ofContent (wordIs plan 5 (conditionParameterAt plan s t) _) = word-test 5 (conditionParameterAt plan s t) _ (omega (arith, state-places)) refl in
           and-then _ _ (and-then _ _ first (at 1 _ (omega arith))) (at 2 _ (omega arith))
 
       state-of : ofContent (checkState plan s)
-      unfolding checkState afterNodes transitionCountAt
+      unfolding checkState afterNodes transitionCountAt within
       state-of =
           and-then _ _ (and-then _ _ (and-then _ _ (and-then _ _
-          (word-test 2 (stateAt plan s) _ (omega (arith, state-places)) (omega arith) (omega arith))
+          (word-test 2 (stateAt plan s) _ (omega (arith, state-places)) refl)
           (all (nodeCount plan s) (checkNode plan s) node-of))
-          (all (nodeCount plan s - 1) _ (λ k h. test _ 4 (stateAt plan s) (omega arith) (omega arith))))
-          (word-test 2 (transitionCountAt plan s) _ (omega (arith, state-places)) (omega arith) (omega arith)))
+          (all (nodeCount plan s - 1) _ (λ k h. test _ 4 (stateAt plan s) refl)))
+          (word-test 2 (transitionCountAt plan s) _ (omega (arith, state-places)) refl))
           (all (transitionCount plan s) (checkTransition plan s) transition-of)
 
     pub check-of : (n : ℕ) → n ≡ numbersLength plan → ofContent (check plan n)
@@ -111,7 +112,7 @@ module _ (plan : List ℕ) where
         let numbers : require (eqb n (numbersLength plan)) 7 0 ≡ accepted = rw (eq-eqb n (numbersLength plan) e) in
         and-then _ _ (and-then _ _ (and-then _ _ (and-then _ _ (and-then _ _ header-of
         (all (jointCount plan) (checkParent plan) parent-of))
-        (all (clipCount plan) (checkSampleCount plan) sample-count-of))
+        (all (clipCount plan) (checkClip plan) clip-of))
         (all (stateCount plan) (checkState plan) state-of))
         (rw words tt))
         (rw numbers tt)

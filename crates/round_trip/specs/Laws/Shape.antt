@@ -5,9 +5,9 @@ use mathlib.Core.Path.{_≡_}
 use mathlib.Core.List.{List, [], _∷_, _++_, append-assoc, append-nil}
 use lib.ListN.{length, getD}
 use Rattle.model.specs.declared.LineKind.the-variants.{Figure, Joint, Clip, State, Node, Go, Pose}
-use Rattle.model.specs.Plan.{word, jointCount, clipCount, stateCount, parentAt, sampleCountAt, sampleCount, afterNodes, afterTransitions, stateAt, nodeCount, kindAt, transitionCountAt, transitionCount, conditionParameterAt, planEnd, total, transitionsBefore, samplesBefore, Value, posesAt, numberAt, numbersLength}
+use Rattle.model.specs.Plan.{clipWords, word, jointCount, clipCount, stateCount, parentAt, sampleCountAt, sampleCount, afterNodes, afterTransitions, stateAt, nodeCount, kindAt, transitionCountAt, transitionCount, conditionParameterAt, planEnd, total, transitionsBefore, samplesBefore, Value, posesAt, numberAt, numbersLength}
 use Rattle.model.specs.Laws.Totals.{total-same}
-use Rattle.model.specs.Text.{forms, wordsIn, bitsIn}
+use Rattle.model.specs.Text.{forms, wordsIn, bitsIn, samplesIn}
 use Rattle.model.specs.Program.{joined, part, lineText, stateText, figureText}
 use Rattle.round_trip.specs.Laws.Parts.{Holds, holds-getD}
 use Rattle.round_trip.specs.Laws.Rows.{lineAt, Row, rowText}
@@ -103,8 +103,9 @@ module _ (plan : List ℕ) where
     unfolding stateCount word
     states-same = holds-getD plan 0 header h 3 (omega arith)
 
-  pub samples-same : (samples : List ℕ) → Holds plan (parentAt (jointCount plan)) samples → length samples ≡ clipCount plan
-      → total (λ c. getD samples c 0) (clipCount plan) ≡ samplesBefore plan (clipCount plan)
+  pub samples-same : (clips : List ℕ) → Holds plan (parentAt (jointCount plan)) clips → length clips ≡ clipWords * clipCount plan
+      → samplesIn clips (clipCount plan) ≡ samplesBefore plan (clipCount plan)
   unfolding samplesBefore sampleCount sampleCountAt word
-  samples-same samples h count =
-      total-same (λ c. getD samples c 0) (sampleCount plan) (clipCount plan) (λ c less. holds-getD plan (parentAt (jointCount plan)) samples h c (omega arith))
+  samples-same clips h count =
+      total-same (λ c. getD clips (clipWords * c) 0) (sampleCount plan) (clipCount plan)
+      (λ c less. holds-getD plan (parentAt (jointCount plan)) clips h (clipWords * c) (omega arith))

@@ -33,7 +33,8 @@ pub fn state(nodes: &[[u16; 4]], goes: &[Go]) -> State {
     }
 }
 
-/// A figure of so many joints, with clips of so many samples and such rates. Its poses are sensible.
+/// A figure of so many joints, with looping clips of so many samples and such rates. Its poses are
+/// sensible.
 pub fn figure(joints: u16, clips: &[(u16, f32)], parameters: u16, states: Vec<State>) -> Draft {
     // A second root at every seventh joint; the others hang from the joint of half their number.
     let parent = |joint: u16| {
@@ -46,6 +47,7 @@ pub fn figure(joints: u16, clips: &[(u16, f32)], parameters: u16, states: Vec<St
     let clip = |&(samples, rate): &(u16, f32)| Clip {
         samples,
         rate: rate.to_bits(),
+        ending: 0,
     };
     let draft = Draft {
         parameters,
@@ -63,6 +65,14 @@ pub fn posed(mut draft: Draft, numbers: Numbers) -> Draft {
     let mut generator = Generator::new(SEED);
     let poses = (0..draft.pose_count()).map(|_| pose(&mut generator, numbers));
     draft.poses = poses.collect();
+    draft
+}
+
+/// The figure with these of its clips stopping.
+pub fn stopping(mut draft: Draft, clips: &[usize]) -> Draft {
+    for &clip in clips {
+        draft.clips[clip].ending = 1;
+    }
     draft
 }
 

@@ -1,5 +1,5 @@
-//! The program `replay` by document 01 and the Rust: what it prints for a figure and a list of
-//! calls, and the lists that are recorded.
+//! The program `replay` by the documents and the reference player: what it prints for a figure and a
+//! list of calls, and the lists that are recorded.
 
 pub mod call;
 mod cases;

@@ -84,7 +84,7 @@ pub fn check(stdin: &Path, stdout: &Path) -> io::Result<bool> {
     }
     let all = results.iter().all(|(_, same)| *same);
     if all {
-        println!("compare: the {count} recorded lists and their answers are the Rust's");
+        println!("compare: the {count} recorded lists and their answers are the reference's");
     }
     Ok(all)
 }
@@ -135,6 +135,7 @@ mod tests {
         let (_, stdin, stdout) = files();
         let answers = ["ok", "refused,2,", "refused,3,", "refused,4,", "refused,5,"];
         let others = [
+            "refused,14,",
             "refused,8,0",
             "refused,10,0",
             "refused,11,",

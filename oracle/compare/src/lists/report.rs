@@ -1,7 +1,7 @@
 //! What the program `replay` prints for a figure's text and a list of calls.
 
 use super::call::{parsed, Call};
-use crate::reference::player::Seen;
+use crate::player::Seen;
 use crate::reference::Reference;
 use crate::row::joined;
 use crate::texts::figure::Refusal;

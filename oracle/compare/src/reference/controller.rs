@@ -101,9 +101,9 @@ fn operator(number: u16) -> Operator {
 fn clips(plan: &Plan, rates: &[f32], numbers: &mut Numbers) -> HashMap<String, Rc<Clip>> {
     let joints = plan.parents.len();
     let mut clips = HashMap::new();
-    for (number, (&samples, &rate)) in plan.clips.iter().zip(rates).enumerate() {
+    for (number, (clip, &rate)) in plan.clips.iter().zip(rates).enumerate() {
         let clip = AnimationClip {
-            samples: (0..samples).map(|_| sample(joints, numbers)).collect(),
+            samples: (0..clip.samples).map(|_| sample(joints, numbers)).collect(),
             samples_per_second: rate,
         };
         clips.insert(name(number), Rc::new(clip));

@@ -1,54 +1,41 @@
-//! The reference player: the Rust's controller behind the calls of document 01, with the refusals
-//! written from document 01 alone.
+//! The reference player. Figures whose clips all loop are played by the Rust's controller, and by
+//! the oracle's own model beside it: the two must agree on every answer, matrix and player. A figure
+//! with a stopping clip is played by the model alone, since the Rust has no such clips.
 
 pub mod controller;
-pub mod player;
+mod rust;
 
+use crate::judge::matrix_bits;
+use crate::lists::report::{ending, player_line};
+use crate::model::Model;
+use crate::player::{Player, Seen};
 use crate::texts::figure::{Figure, Refusal};
-use crate::texts::plan::{check, Node, Plan};
-use controller::{name, Controller};
-use player::{Instance, Player, Running, BLANK_INSTANCE, INSTANCES, PARAMETERS};
-use skeletal_animation::animation::ClipInstance;
-use skeletal_animation::blend_tree::access::{clip_places, instance, instance_mut};
-use skeletal_animation::controller::access::{fields, fields_mut};
-use skeletal_animation::controller::{AnimationTransition, Operator, TransitionCondition};
+use rust::RustPlayer;
 use skeletal_animation::math::Matrix4;
-use skeletal_animation::transform::{QVTransform, Transform};
-
-/// The smallest plan. Its fresh player is the blank one.
-const SMALLEST: [u16; 13] = [1, 1, 0, 1, 0, 255, 1, 1, 0, 0, 0, 0, 0];
 
 pub struct Reference {
-    checked: Result<Plan, Refusal>,
-    controller: Controller,
-    /// The Rust's clip node for each clip node of the plan.
-    leaves: Vec<Leaf>,
-    /// The instances that belong to no clip node are kept here, at their own places.
-    spare: [Instance; INSTANCES],
-    names: Vec<String>,
+    figure: Figure,
+    model: Model,
+    /// Only where no clip stops.
+    rust: Option<RustPlayer>,
 }
 
-/// Where the Rust keeps a clip node.
-struct Leaf {
-    state: String,
-    place: usize,
-}
+type Shown = Result<Vec<Matrix4<f32>>, Refusal>;
 
 impl Reference {
     /// A player of the figure, fresh where the figure is accepted and else blank.
     pub fn start(figure: &Figure) -> Reference {
-        let checked = check(figure);
-        let (controller, leaves) = match &checked {
-            Ok(plan) => playing(plan, &figure.numbers),
-            Err(_) => blank(),
+        let model = Model::start(figure);
+        let reference = Reference {
+            figure: figure.clone(),
+            rust: (!model.has_stopping_clip()).then(|| RustPlayer::start(figure)),
+            model,
         };
-        Reference {
-            checked,
-            controller,
-            leaves,
-            spare: [BLANK_INSTANCE; INSTANCES],
-            names: (0..PARAMETERS).map(name).collect(),
+        if let Some(rust) = &reference.rust {
+            reference.agree("a start", &reference.model.answer(), &rust.answer());
         }
+        reference.players_agree("a start");
+        reference
     }
 
     /// A player of the figure that holds what `player` holds.
@@ -58,194 +45,108 @@ impl Reference {
         reference
     }
 
+    /// Whether the Rust plays the figure.
+    pub fn is_rust(&self) -> bool {
+        self.rust.is_some()
+    }
+
     /// The start's answer.
     pub fn answer(&self) -> Result<(), Refusal> {
-        self.checked
-            .as_ref()
-            .map(|_| ())
-            .map_err(|refusal| *refusal)
+        self.model.answer()
     }
 
     pub fn update(&mut self, delta: f64) {
-        self.controller.update(delta);
+        self.model.update(delta);
+        if let Some(rust) = &mut self.rust {
+            rust.update(delta);
+        }
+        self.players_agree("an update");
     }
 
     pub fn speed(&mut self, speed: f64) {
-        self.controller.set_playback_speed(speed);
+        self.model.speed(speed);
+        if let Some(rust) = &mut self.rust {
+            rust.speed(speed);
+        }
+        self.players_agree("a speed");
     }
 
     pub fn set(&mut self, parameter: usize, value: f32) -> Result<(), Refusal> {
-        let Some(name) = self.names.get(parameter) else {
-            return refused(8);
-        };
-        self.controller.set_param_value(name, value);
-        Ok(())
+        let answer = self.model.set(parameter, value);
+        if let Some(rust) = &mut self.rust {
+            let other = rust.set(parameter, value);
+            self.agree("a set", &answer, &other);
+        }
+        self.players_agree("a set");
+        answer
     }
 
     /// Each joint's matrix, for an output of so many floats.
-    pub fn frame(&mut self, ext: f64, length: usize) -> Result<Vec<Matrix4<f32>>, Refusal> {
-        let plan = self.checked.as_ref().map_err(|refusal| *refusal)?;
-        let states = plan.states.len();
-        let joints = plan.parents.len();
-        let held = fields(&self.controller);
-        let target = held.transition.as_ref().map(|begun| running(begun).target);
-        if number(held.current_state) >= states || target.is_some_and(|target| target >= states) {
-            return refused(9);
-        }
-        if length < 16 * joints {
-            return refused(10);
-        }
-        let mut output = vec![Matrix4::identity(); joints];
-        self.controller.get_output_pose(ext, &mut output);
-        Ok(output)
+    pub fn frame(&mut self, ext: f64, length: usize) -> Shown {
+        let shown = self.model.frame(ext, length);
+        let other = self.rust.as_mut().map(|rust| rust.frame(ext, length));
+        self.judged("a frame", shown, other)
     }
 
-    pub fn page_frame(&mut self, ext: f64, length: usize) -> Result<Vec<Matrix4<f32>>, Refusal> {
-        let matrices = self.frame(ext, length)?;
-        Ok(matrices.into_iter().map(page_matrix).collect())
+    pub fn page_frame(&mut self, ext: f64, length: usize) -> Shown {
+        let shown = self.model.page_frame(ext, length);
+        let other = self.rust.as_mut().map(|rust| rust.page_frame(ext, length));
+        self.judged("a page frame", shown, other)
+    }
+
+    /// What the Rust shows where it plays, and else the model.
+    fn judged(&self, call: &str, model: Shown, rust: Option<Shown>) -> Shown {
+        self.players_agree(call);
+        let Some(rust) = rust else { return model };
+        self.agree(call, &shown_bits(&model), &shown_bits(&rust));
+        rust
     }
 
     pub fn is_running(&self) -> bool {
-        fields(&self.controller).transition.is_some()
+        self.model.player().transition.is_some()
     }
 
-    /// The player that the controller holds.
+    /// The player after the last call.
     pub fn player(&self) -> Player {
-        let fields = fields(&self.controller);
-        let parameters = self.controller.get_parameters();
-        let value = |i: usize| parameters.get(&self.names[i]).copied().unwrap_or(0.0);
-        let mut instances = self.spare;
-        for (held, leaf) in instances.iter_mut().zip(&self.leaves) {
-            let tree = &fields.states[&leaf.state].blend_tree;
-            *held = held_by(instance(tree, leaf.place));
-        }
-        Player {
-            clock: fields.local_clock,
-            speed: fields.playback_speed,
-            state: number(fields.current_state),
-            transition: fields.transition.as_ref().map(running),
-            parameters: std::array::from_fn(value),
-            instances,
-        }
+        self.model.player().clone()
     }
 
-    /// Puts another player into the controller, whatever it holds.
+    /// Puts another player in its place, whatever it holds.
     pub fn store(&mut self, player: &Player) {
-        for (name, &value) in self.names.iter().zip(&player.parameters) {
-            self.controller.set_param_value(name, value);
+        self.model.store(player);
+        if let Some(rust) = &mut self.rust {
+            rust.store(player);
         }
-        self.controller.set_playback_speed(player.speed);
-        self.spare = player.instances;
-        let fields = fields_mut(&mut self.controller);
-        *fields.local_clock = player.clock;
-        *fields.current_state = name(player.state);
-        *fields.transition = player.transition.map(begun);
-        for (&held, leaf) in player.instances.iter().zip(&self.leaves) {
-            let state = fields.states.get_mut(&leaf.state).expect("a leaf's state");
-            let instance = instance_mut(&mut state.blend_tree, leaf.place);
-            [
-                instance.start_time,
-                instance.playback_rate,
-                instance.time_offset,
-            ] = held;
+        self.players_agree("a store");
+    }
+
+    fn players_agree(&self, call: &str) {
+        let Some(rust) = &self.rust else { return };
+        let [model, rust] = [self.model.player(), &rust.player()].map(Player::seen);
+        if model != rust {
+            self.agree(call, &player_text(&model), &player_text(&rust));
         }
     }
-}
 
-fn refused<T>(number: u8) -> Result<T, Refusal> {
-    Err(Refusal { number, place: 0 })
-}
-
-fn playing(plan: &Plan, numbers: &[u32]) -> (Controller, Vec<Leaf>) {
-    let controller = controller::controller(plan, numbers);
-    let leaves = leaves(plan, &controller);
-    (controller, leaves)
-}
-
-fn blank() -> (Controller, Vec<Leaf>) {
-    let figure = Figure {
-        plan: SMALLEST.to_vec(),
-        numbers: vec![0; 9],
-    };
-    let plan = check(&figure).expect("a plan that passes");
-    playing(&plan, &figure.numbers)
-}
-
-/// For each clip node in the order of the plan. The Rust's trees keep theirs in an order of their
-/// own, so both trees are walked from the root, and what is met together belongs together.
-fn leaves(plan: &Plan, controller: &Controller) -> Vec<Leaf> {
-    let mut all = Vec::new();
-    for (number, state) in plan.states.iter().enumerate() {
-        let state_name = name(number);
-        let places = clip_places(&fields(controller).states[&state_name].blend_tree);
-        let mut nodes = Vec::new();
-        clip_nodes(&state.nodes, state.nodes.len() - 1, &mut nodes);
-        assert_eq!(nodes.len(), places.len(), "clip nodes of a state");
-        let mut met: Vec<(usize, usize)> = nodes.into_iter().zip(places).collect();
-        met.sort_unstable();
-        all.extend(met.into_iter().map(|(_, place)| Leaf {
-            state: state_name.clone(),
-            place,
-        }));
-    }
-    all
-}
-
-/// The clip nodes below a node, input a before input b.
-fn clip_nodes(nodes: &[Node], root: usize, met: &mut Vec<usize>) {
-    match &nodes[root] {
-        Node::Clip(_) => met.push(root),
-        Node::Lerp(inputs) | Node::Additive(inputs) => {
-            clip_nodes(nodes, usize::from(inputs.a), met);
-            clip_nodes(nodes, usize::from(inputs.b), met);
-        }
+    /// Where these two differ the oracle itself is wrong, and it says so at once: a report about the
+    /// library would mislead.
+    fn agree<T: PartialEq + std::fmt::Debug>(&self, call: &str, model: &T, rust: &T) {
+        let Figure { plan, numbers } = &self.figure;
+        assert!(
+            model == rust,
+            "the oracle's own model is not the Rust's after {call}\nmodel {model:x?}\nRust  {rust:x?}\n\
+             plan {plan:?}\nnumbers {numbers:x?}"
+        );
     }
 }
 
-fn number(name: &str) -> usize {
-    name.parse().expect("states have numbers for names")
+fn player_text(player: &Seen) -> String {
+    player_line(player) + &ending(player)
 }
 
-fn held_by(instance: &ClipInstance<QVTransform>) -> Instance {
-    [
-        instance.start_time,
-        instance.playback_rate,
-        instance.time_offset,
-    ]
-}
-
-fn running((start, transition): &(f64, AnimationTransition)) -> Running {
-    Running {
-        start: *start,
-        target: number(&transition.target_state),
-        duration: transition.duration,
-    }
-}
-
-/// A transition as the controller holds it while it runs. It does not look at the condition again.
-fn begun(running: Running) -> (f64, AnimationTransition) {
-    let condition = TransitionCondition {
-        parameter: String::new(),
-        operator: Operator::Equal,
-        value: 0.0,
-    };
-    let transition = AnimationTransition {
-        target_state: name(running.target),
-        condition,
-        duration: running.duration,
-    };
-    (running.start, transition)
-}
-
-/// The upper 3x3 part transposed.
-fn page_matrix(matrix: Matrix4<f32>) -> Matrix4<f32> {
-    let mut page = matrix;
-    for (i, row) in page.iter_mut().take(3).enumerate() {
-        for (j, entry) in row.iter_mut().take(3).enumerate() {
-            *entry = matrix[j][i];
-        }
-    }
-    page
+fn shown_bits(shown: &Shown) -> Result<Vec<Vec<u32>>, Refusal> {
+    let matrices = shown.as_ref().map_err(|refusal| *refusal)?;
+    Ok(matrices.iter().map(|&matrix| matrix_bits(matrix)).collect())
 }
 
 #[cfg(test)]

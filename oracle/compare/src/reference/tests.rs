@@ -1,7 +1,7 @@
 //! The reference by cases that document 01 decides.
 
-use super::player::{Player, Running, BLANK, BLANK_INSTANCE};
 use super::Reference;
+use crate::player::{Player, Running, BLANK, BLANK_INSTANCE};
 use crate::texts::edges::BLEND;
 use crate::texts::figure::{Figure, Refusal};
 use crate::texts::reader::read;
@@ -30,7 +30,7 @@ fn a_refused_start_leaves_the_blank_player() {
 #[test]
 fn an_instance_belongs_to_its_node_of_the_plan() {
     let plan = [
-        1, 2, 1, 1, 0, 255, 2, 6, 3, 0, 0, 0, 0, 0, 1, 0, 0, 1, 1, 0, 0, 0,
+        1, 2, 1, 1, 0, 255, 2, 0, 6, 0, 3, 0, 0, 0, 0, 0, 1, 0, 0, 1, 1, 0, 0, 0,
     ];
     let mut numbers = vec![1f32.to_bits(); 2];
     numbers.resize(2 + 8 * 8, 0);
@@ -134,4 +134,76 @@ fn parameters_that_no_plan_reads_are_kept() {
     reference.set(31, -2.5).unwrap();
     reference.frame(0.0, 16).unwrap();
     assert_eq!(reference.player().parameters[31], -2.5);
+}
+
+/// BLEND with its second clip stopping.
+fn stopping() -> Figure {
+    let mut figure = blend();
+    figure.plan[9] = 1;
+    figure
+}
+
+#[test]
+fn the_rust_plays_where_no_clip_stops() {
+    assert!(Reference::start(&blend()).is_rust());
+    assert!(Reference::start(&NO_FIGURE).is_rust());
+    let reference = Reference::start(&stopping());
+    assert_eq!(reference.answer(), Ok(()));
+    assert!(!reference.is_rust());
+    let mut wrong = stopping();
+    wrong.plan[7] = 2;
+    let mut reference = Reference::start(&wrong);
+    assert_eq!(reference.answer(), Err(refusal(14, 7)));
+    assert_eq!(reference.player().seen(), BLANK.seen());
+    assert_eq!(reference.frame(0.0, 0), Err(refusal(14, 7)));
+    assert_eq!(reference.page_frame(0.0, 16), Err(refusal(14, 7)));
+}
+
+/// Samples with x 1 and 2, at position 1.5: half way back, or at the last.
+#[test]
+fn a_stopping_clip_is_played_by_the_model() {
+    for (ending, x) in [(0, 1.5), (1, 2.0)] {
+        let pose = |x: f32| [x, 0.0, 0.0, 1.0, 1.0, 0.0, 0.0, 0.0];
+        let numbers = [&[1.0][..], &pose(1.0), &pose(2.0)].concat();
+        let figure = Figure {
+            plan: vec![1, 1, 0, 1, 0, 255, 2, ending, 1, 0, 0, 0, 0, 0],
+            numbers: numbers.into_iter().map(f32::to_bits).collect(),
+        };
+        let mut reference = Reference::start(&figure);
+        reference.update(1.25);
+        assert_eq!(reference.frame(0.25, 16).unwrap()[0][0][3], x);
+        assert_eq!(reference.player().clock, 1.25);
+    }
+}
+
+#[test]
+#[should_panic(expected = "the oracle's own model is not the Rust's after an update")]
+fn a_player_of_the_model_that_is_not_the_rusts_is_told() {
+    let mut reference = Reference::start(&blend());
+    reference.model.speed(2.0);
+    reference.update(1.0);
+}
+
+#[test]
+#[should_panic(expected = "the oracle's own model is not the Rust's after a frame")]
+fn a_matrix_of_the_model_that_is_not_the_rusts_is_told() {
+    let mut other = blend();
+    *other.numbers.last_mut().unwrap() ^= 0x3f80_0000;
+    let mut reference = Reference::start(&blend());
+    reference.set(0, 0.5).unwrap();
+    let player = reference.player();
+    reference.model = crate::model::Model::start(&other);
+    reference.model.store(&player);
+    let _ = reference.frame(0.0, 16);
+}
+
+#[test]
+#[should_panic(expected = "the oracle's own model is not the Rust's after a page frame")]
+fn an_answer_of_the_model_that_is_not_the_rusts_is_told() {
+    let mut reference = Reference::start(&blend());
+    reference.model = crate::model::Model::start(&NO_FIGURE);
+    reference
+        .model
+        .store(&reference.rust.as_ref().unwrap().player());
+    let _ = reference.page_frame(0.0, 0);
 }

@@ -18,6 +18,8 @@ pub struct Draft {
 pub struct Clip {
     pub samples: u16,
     pub rate: u32,
+    /// 0 loops, 1 stops; any other is wrong.
+    pub ending: u16,
 }
 
 #[derive(Clone, Debug, Default)]
@@ -48,7 +50,8 @@ impl Draft {
         let mut plan = counts.to_vec();
         plan.extend([self.parameters, self.states.len() as u16, self.initial]);
         plan.extend(&self.parents);
-        plan.extend(self.clips.iter().map(|clip| clip.samples));
+        let clips = self.clips.iter();
+        plan.extend(clips.flat_map(|clip| [clip.samples, clip.ending]));
         let mut numbers: Vec<u32> = self.clips.iter().map(|clip| clip.rate).collect();
         for state in &self.states {
             plan.push(state.nodes.len() as u16);
@@ -76,7 +79,7 @@ impl Draft {
             text += &format!("joint,{parent}\n");
         }
         for clip in &self.clips {
-            text += &format!("clip,{},{:08x}\n", clip.samples, clip.rate);
+            text += &clip.text();
         }
         for state in &self.states {
             text += &state.text();
@@ -85,6 +88,17 @@ impl Draft {
             text += &format!("pose,{}\n", joined(pose));
         }
         text
+    }
+}
+
+impl Clip {
+    fn text(&self) -> String {
+        let Clip {
+            samples,
+            rate,
+            ending,
+        } = self;
+        format!("clip,{samples},{rate:08x},{ending}\n")
     }
 }
 

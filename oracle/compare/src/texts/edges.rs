@@ -1,12 +1,12 @@
-//! Texts at the edges of what the reader takes, each with the answer that document 01 gives: a
+//! Texts at the edges of what the reader takes, each with the answer that documents 01 and 02 give: a
 //! refusal's number and place, or none where the figure is played.
 
-/// A lerp node and a transition in 312 bytes. Parameter 0 is 0, so the transition begins.
+/// A lerp node and a transition in 316 bytes. Parameter 0 is 0, so the transition begins.
 pub const BLEND: &str = "\
 figure,1,2,1,2,0
 joint,255
-clip,1,3f800000
-clip,1,40000000
+clip,1,3f800000,0
+clip,1,40000000,0
 state,3,1
 node,0,0,0,0
 node,0,1,0,0
@@ -21,7 +21,7 @@ pose,00000000,3f800000,00000000,3f800000,3f800000,00000000,00000000,00000000
 pub type Answer = Option<(u8, usize)>;
 
 /// A line of `BLEND`, what stands in its place, and the answer. Line 14 comes after the last.
-const LINES: [(usize, &str, Answer); 79] = [
+const LINES: [(usize, &str, Answer); 100] = [
     (1, "figure,1,2,1,2,0\n", None),
     // Lines that are not there, not whole, or too many.
     (1, "", Some((11, 1))),
@@ -36,7 +36,7 @@ const LINES: [(usize, &str, Answer); 79] = [
     (14, "pose", Some((11, 14))),
     (14, "joint,255\n", Some((11, 14))),
     (1, "\nfigure,1,2,1,2,0\n", Some((11, 1))),
-    (3, "joint,255\nclip,1,3f800000\n", Some((11, 3))),
+    (3, "joint,255\nclip,1,3f800000,0\n", Some((11, 3))),
     (5, "state,3,2\n", Some((11, 10))),
     // Only LF ends a line.
     (2, "joint,255\r\n", Some((11, 2))),
@@ -79,15 +79,37 @@ const LINES: [(usize, &str, Answer); 79] = [
     (2, "joint,65791\n", Some((11, 2))),
     (2, "joint,18446744073709551871\n", Some((11, 2))),
     // Float bits.
-    (3, "clip,1,ffffffff\n", None),
-    (3, "clip,1,3F800000\n", Some((11, 3))),
-    (3, "clip,1,3f80000\n", Some((11, 3))),
-    (3, "clip,1,03f800000\n", Some((11, 3))),
-    (3, "clip,1,0x3f8000\n", Some((11, 3))),
-    (3, "clip,1,+f800000\n", Some((11, 3))),
-    (3, "clip,1,3f80000g\n", Some((11, 3))),
-    (3, "clip,1,3f80000`\n", Some((11, 3))),
-    (3, "clip,1,\n", Some((11, 3))),
+    (3, "clip,1,ffffffff,0\n", None),
+    (3, "clip,1,3F800000,0\n", Some((11, 3))),
+    (3, "clip,1,3f80000,0\n", Some((11, 3))),
+    (3, "clip,1,03f800000,0\n", Some((11, 3))),
+    (3, "clip,1,0x3f8000,0\n", Some((11, 3))),
+    (3, "clip,1,+f800000,0\n", Some((11, 3))),
+    (3, "clip,1,3f80000g,0\n", Some((11, 3))),
+    (3, "clip,1,3f80000`,0\n", Some((11, 3))),
+    (3, "clip,1,,0\n", Some((11, 3))),
+    // Endings: any decimal for the reader. The first form of the line had none.
+    (3, "clip,1,3f800000,1\n", None),
+    (4, "clip,1,40000000,1\n", None),
+    (3, "clip,1,3f800000,2\n", Some((14, 7))),
+    (4, "clip,1,40000000,2\n", Some((14, 9))),
+    (3, "clip,1,3f800000,255\n", Some((14, 7))),
+    (3, "clip,1,3f800000,4097\n", Some((14, 7))),
+    (3, "clip,1,3f800000,65535\n", Some((14, 7))),
+    (3, "clip,1,3f800000,65536\n", Some((11, 3))),
+    (3, "clip,1,3f800000,65537\n", Some((11, 3))),
+    (3, "clip,1,3f800000,00\n", Some((11, 3))),
+    (3, "clip,1,3f800000,01\n", Some((11, 3))),
+    (3, "clip,1,3f800000,-0\n", Some((11, 3))),
+    (3, "clip,1,3f800000, 0\n", Some((11, 3))),
+    (3, "clip,1,3f800000,00000000\n", Some((11, 3))),
+    (3, "clip,1,3f800000,\n", Some((11, 3))),
+    (3, "clip,1,3f800000\n", Some((11, 3))),
+    (4, "clip,1,40000000\n", Some((11, 4))),
+    (3, "clip,1,3f800000,0,\n", Some((11, 3))),
+    (3, "clip,1,3f800000,0,0\n", Some((11, 3))),
+    (3, "clip,1,0,3f800000\n", Some((11, 3))),
+    (3, "clip,3f800000,1,0\n", Some((11, 3))),
     // Counts at their upper limits and above: the limit lets the line pass.
     (1, "figure,64,2,1,2,0\n", Some((11, 3))),
     (1, "figure,65,2,1,2,0\n", Some((11, 1))),
@@ -97,8 +119,8 @@ const LINES: [(usize, &str, Answer); 79] = [
     (1, "figure,1,2,33,2,0\n", Some((11, 1))),
     (1, "figure,1,2,1,16,0\n", Some((11, 12))),
     (1, "figure,1,2,1,17,0\n", Some((11, 1))),
-    (3, "clip,4096,3f800000\n", Some((11, 14))),
-    (3, "clip,4097,3f800000\n", Some((11, 3))),
+    (3, "clip,4096,3f800000,0\n", Some((11, 14))),
+    (3, "clip,4097,3f800000,2\n", Some((11, 3))),
     (5, "state,31,1\n", Some((11, 9))),
     (5, "state,32,1\n", Some((11, 5))),
     (5, "state,3,16\n", Some((11, 10))),
@@ -106,9 +128,9 @@ const LINES: [(usize, &str, Answer); 79] = [
     // What is no count above its limit is left to the start.
     (1, "figure,1,2,1,2,2\n", Some((2, 4))),
     (1, "figure,1,2,1,2,65535\n", Some((2, 4))),
-    (6, "node,9,65535,65535,65535\n", Some((4, 9))),
-    (9, "go,32,4,1,00000000,3f000000\n", Some((5, 22))),
-    (9, "go,0,4,16,00000000,3f000000\n", Some((5, 24))),
+    (6, "node,9,65535,65535,65535\n", Some((4, 11))),
+    (9, "go,32,4,1,00000000,3f000000\n", Some((5, 24))),
+    (9, "go,0,4,16,00000000,3f000000\n", Some((5, 26))),
 ];
 
 const POSE_WITHOUT_LF: &str =
@@ -122,22 +144,45 @@ const WHOLE: [(&str, Answer); 11] = [
     ("figure,0,0,0,0,0\n", Some((2, 0))),
     ("figure,0,0,0,0,0\n\n", Some((11, 2))),
     ("figure,1,0,0,0,0\njoint,0\n", Some((2, 1))),
-    ("figure,1,1,0,0,0\njoint,0\nclip,0,00000000\n", Some((2, 3))),
     (
-        "figure,1,1,0,1,0\njoint,0\nclip,0,00000000\nstate,0,0\n",
+        "figure,1,1,0,0,0\njoint,0\nclip,0,00000000,0\n",
+        Some((2, 3)),
+    ),
+    (
+        "figure,1,1,0,1,0\njoint,0\nclip,0,00000000,2\nstate,0,0\n",
         Some((3, 5)),
     ),
     (
-        "figure,1,1,0,1,0\njoint,255\nclip,0,00000000\nstate,0,0\n",
+        "figure,1,1,0,1,0\njoint,255\nclip,0,00000000,0\nstate,0,0\n",
         Some((2, 6)),
     ),
-    ("figure,0,16,0,0,0\nclip,4096,00000000\n", Some((11, 3))),
+    ("figure,0,16,0,0,0\nclip,4096,00000000,0\n", Some((11, 3))),
+];
+
+/// N and ending of two clips, and the answer. Their state has no nodes, which is found after them.
+const CLIPS: [([u16; 4], Answer); 9] = [
+    ([1, 0, 1, 0], Some((2, 10))),
+    ([1, 1, 1, 1], Some((2, 10))),
+    ([1, 2, 1, 0], Some((14, 7))),
+    ([1, 0, 1, 2], Some((14, 9))),
+    ([1, 2, 1, 2], Some((14, 7))),
+    ([0, 2, 1, 0], Some((2, 6))),
+    ([0, 0, 1, 2], Some((2, 6))),
+    ([1, 2, 0, 0], Some((14, 7))),
+    ([1, 1, 0, 65535], Some((2, 8))),
 ];
 
 pub fn edges() -> Vec<(Vec<u8>, Answer)> {
     let lines = LINES.map(|(number, line, answer)| (with_line(number, line).into(), answer));
     let whole = WHOLE.map(|(text, answer)| (text.into(), answer));
-    lines.into_iter().chain(whole).collect()
+    let clips = CLIPS.map(|(words, answer)| (two_clips(words).into(), answer));
+    lines.into_iter().chain(whole).chain(clips).collect()
+}
+
+fn two_clips([samples, ending, others, other]: [u16; 4]) -> String {
+    let clips = format!("clip,{samples},3f800000,{ending}\nclip,{others},3f800000,{other}\n");
+    let poses = format!("{POSE_WITHOUT_LF}\n").repeat(usize::from(samples + others));
+    format!("figure,1,2,0,1,0\njoint,255\n{clips}state,0,0\n{poses}")
 }
 
 fn with_line(number: usize, line: &str) -> String {

@@ -2,7 +2,7 @@
 
 use super::case::Case;
 use super::edges::{edges, BLEND};
-use super::limits::{full_text, long_text};
+use super::limits::{full_text, long_text, most_words_text};
 use super::printed::{printed, LONGEST};
 use crate::generator::Generator;
 use std::collections::BTreeMap;
@@ -46,6 +46,8 @@ fn cases(figures: &BTreeMap<String, Vec<u8>>) -> io::Result<Vec<Case>> {
     cases.extend([
         Case::text(full_text(&mut generator, 64)),
         Case::text(full_text(&mut generator, 65)),
+        Case::text(most_words_text(&mut generator, 1)),
+        Case::text(most_words_text(&mut generator, 2)),
         Case::text(longest),
         Case::text(too_long),
         Case::text([0; LONGEST]),
@@ -107,7 +109,7 @@ pub fn check(examples: &Path, stdin: &Path, stdout: &Path) -> io::Result<bool> {
     let all = results.iter().all(|(_, same)| *same);
     if all {
         println!(
-            "compare: {} examples and {} recorded cases are the Rust's",
+            "compare: {} examples and {} recorded cases are the reference's",
             figures.len(),
             recording.count
         );

@@ -15,7 +15,7 @@ pub fn long_text(generator: &mut Generator, length: usize) -> String {
     let mut draft = Draft {
         parameters: 2,
         parents: (0..JOINTS).map(parent).collect(),
-        clips: [5, 4, 3, 1].map(clip).to_vec(),
+        clips: [5, 4, 3, 1].map(|samples| clip(samples, 0)).to_vec(),
         states: [8, 4, 1].map(|leaves| balanced(leaves, 4, 2)).to_vec(),
         ..Draft::default()
     };
@@ -32,7 +32,7 @@ pub fn full_text(generator: &mut Generator, clip_nodes: u16) -> String {
     let mut draft = Draft {
         parameters: 32,
         parents: vec![255],
-        clips: vec![clip(1); usize::from(CLIPS)],
+        clips: (0..CLIPS).map(|number| clip(1, number % 2)).collect(),
         states: leaves.map(|leaves| balanced(leaves, CLIPS, 32)).to_vec(),
         ..Draft::default()
     };
@@ -44,8 +44,30 @@ pub fn full_text(generator: &mut Generator, clip_nodes: u16) -> String {
     draft.text()
 }
 
-fn clip(samples: u16) -> Clip {
-    Clip { samples, rate: ONE }
+/// As many words as a text can have: 2885. The samples of its first clip are the only ones, so that
+/// the text is short enough; this clip's ending is given.
+pub fn most_words_text(generator: &mut Generator, ending: u16) -> String {
+    let mut clips = vec![clip(0, 1); usize::from(CLIPS)];
+    clips[0] = clip(1, ending);
+    let mut state = balanced(16, CLIPS, 32);
+    state.transitions = vec![transition(31, true, 15); 16];
+    let mut draft = Draft {
+        parameters: 32,
+        parents: vec![255; usize::from(JOINTS)],
+        clips,
+        states: vec![state; 16],
+        ..Draft::default()
+    };
+    put_poses(generator, &mut draft);
+    draft.text()
+}
+
+fn clip(samples: u16, ending: u16) -> Clip {
+    Clip {
+        samples,
+        rate: ONE,
+        ending,
+    }
 }
 
 fn put_poses(generator: &mut Generator, draft: &mut Draft) {
@@ -92,7 +114,7 @@ fn lengthen(draft: &mut Draft, length: usize) {
 mod tests {
     use super::*;
     use crate::texts::figure::Refusal;
-    use crate::texts::printed::{played, LONGEST};
+    use crate::texts::printed::{played, read, LONGEST};
 
     #[test]
     fn a_long_text_has_its_length_and_is_played() {
@@ -109,11 +131,22 @@ mod tests {
         let text = |clip_nodes| full_text(&mut Generator::new(1), clip_nodes).into_bytes();
         assert!(played(&text(64)).is_ok());
         // Before the last state: header, parent and counts; three big trees and twelve small ones.
-        let state = 5 + 1 + 16 + 3 * (2 + 4 * 31 + 3 * 16) + 12 * (2 + 4 + 3 * 16);
+        let state = 5 + 1 + 2 * 16 + 3 * (2 + 4 * 31 + 3 * 16) + 12 * (2 + 4 + 3 * 16);
         let refusal = Refusal {
             number: 2,
             place: state + 1 + 4 * 4,
         };
         assert_eq!(played(&text(65)), Err(refusal));
+    }
+
+    /// Clips begin at place 69; the first has an ending that passes, or does not.
+    #[test]
+    fn the_longest_plan_is_read_and_refused_at_its_clips() {
+        for (ending, number, place) in [(0, 2, 71), (1, 2, 71), (2, 14, 70)] {
+            let text = most_words_text(&mut Generator::new(1), ending).into_bytes();
+            let figure = read(&text).unwrap();
+            assert_eq!(figure.plan.len(), 2885);
+            assert_eq!(played(&text), Err(Refusal { number, place }));
+        }
     }
 }

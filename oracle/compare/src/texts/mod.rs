@@ -1,5 +1,5 @@
-//! The program `gentianlathe` by document 01 and the Rust: what it prints for a text, and the cases
-//! on which it is held to that.
+//! The program `gentianlathe` by the documents and the reference player: what it prints for a text,
+//! and the cases on which it is held to that.
 
 pub mod case;
 pub mod draft;

@@ -1,4 +1,4 @@
-//! The check of a plan, refusals 1 to 7, written from document 01 alone.
+//! The check of a plan, refusals 1 to 7 and 14, written from documents 01 and 02 alone.
 
 use super::figure::{Figure, Refusal};
 use std::ops::RangeInclusive;
@@ -9,11 +9,16 @@ const CLIP_NODES: usize = 64;
 /// A plan that passed, taken apart.
 pub struct Plan {
     pub parents: Vec<u16>,
-    /// The sample count of each clip.
-    pub clips: Vec<u16>,
+    pub clips: Vec<Clip>,
     pub parameters: u16,
     pub states: Vec<State>,
     pub initial: u16,
+}
+
+pub struct Clip {
+    pub samples: u16,
+    /// Whether it holds its last pose, and does not loop.
+    pub stops: bool,
 }
 
 pub struct State {
@@ -63,7 +68,8 @@ impl Plan {
     /// How many numbers belong to it.
     fn numbers(&self) -> usize {
         let transitions: usize = self.states.iter().map(|s| s.transitions.len()).sum();
-        let samples: usize = self.clips.iter().map(|&count| usize::from(count)).sum();
+        let samples = self.clips.iter().map(|clip| usize::from(clip.samples));
+        let samples: usize = samples.sum();
         self.clips.len() + 2 * transitions + 8 * self.parents.len() * samples
     }
 }
@@ -84,16 +90,23 @@ impl Words<'_> {
         let initial = self.word(2, |word| word < states)?;
         let parent = |joint| self.word(3, |word| word == ROOT || word < joint);
         let parents = (0..joints).map(parent).collect::<Result<_, _>>()?;
-        let samples = |_| self.count(1..=4096);
-        let samples = (0..clips).map(samples).collect::<Result<_, _>>()?;
+        let played = (0..clips).map(|_| self.clip());
+        let played = played.collect::<Result<_, _>>()?;
         let state = |_| self.state(clips, parameters, states);
         let states = (0..states).map(state).collect::<Result<_, _>>()?;
         Ok(Plan {
             parents,
-            clips: samples,
+            clips: played,
             parameters,
             states,
             initial,
+        })
+    }
+
+    fn clip(&mut self) -> Result<Clip, Refusal> {
+        Ok(Clip {
+            samples: self.count(1..=4096)?,
+            stops: self.word(14, |word| word <= 1)? == 1,
         })
     }
 
@@ -182,17 +195,17 @@ mod tests {
 
     /// Two joints, two clips, one parameter, two states: a lerp of two clips that goes to state 1,
     /// and a clip.
-    const WORDS: [u16; 33] = [
+    const WORDS: [u16; 35] = [
         2, 2, 1, 2, 0, // header: 0 to 4
         255, 0, // parents: 5, 6
-        1, 3, // samples: 7, 8
-        3, 0, 0, 0, 0, 0, 1, 0, 0, 1, 0, 1, 0, // K: 9, nodes: 10 to 21
-        1, 0, 5, 1, // T: 22, transition: 23 to 25
-        1, 0, 1, 0, 0, // K: 26, node: 27 to 30
-        0, // T: 31
-        0, // left over: 32
+        1, 0, 3, 1, // samples and ending of each clip: 7 to 10
+        3, 0, 0, 0, 0, 0, 1, 0, 0, 1, 0, 1, 0, // K: 11, nodes: 12 to 23
+        1, 0, 5, 1, // T: 24, transition: 25 to 27
+        1, 0, 1, 0, 0, // K: 28, node: 29 to 32
+        0, // T: 33
+        0, // left over: 34
     ];
-    const LENGTH: usize = 32;
+    const LENGTH: usize = 34;
     const NUMBERS: usize = 2 + 2 + 8 * 2 * 4;
 
     fn answer(plan: &[u16], numbers: usize) -> Option<(u8, usize)> {
@@ -229,19 +242,22 @@ mod tests {
             (5, [0, 254], 3),
             (6, [1, 256], 3),
             (7, [0, 4097], 2),
-            (9, [0, 32], 2),
-            (10, [3, 65535], 4),
-            (11, [2, 65535], 4),
-            (12, [1, 255], 4),
-            (13, [1, 255], 4),
-            (18, [3, 256], 4),
-            (19, [2, 256], 4),
-            (20, [0, 2], 4), // the same input twice, a later one
-            (21, [1, 255], 4),
-            (22, [17, 65535], 2),
-            (23, [1, 31], 5),
-            (24, [6, 255], 5),
-            (25, [2, 255], 5),
+            (8, [2, 65535], 14),
+            (9, [0, 65535], 2),
+            (10, [2, 256], 14),
+            (11, [0, 32], 2),
+            (12, [3, 65535], 4),
+            (13, [2, 65535], 4),
+            (14, [1, 255], 4),
+            (15, [1, 255], 4),
+            (20, [3, 256], 4),
+            (21, [2, 256], 4),
+            (22, [0, 2], 4), // the same input twice, a later one
+            (23, [1, 255], 4),
+            (24, [17, 65535], 2),
+            (25, [1, 31], 5),
+            (26, [6, 255], 5),
+            (27, [2, 255], 5),
         ];
         for (place, words, number) in at_itself {
             for word in words {
@@ -258,17 +274,53 @@ mod tests {
 
     #[test]
     fn an_unused_node_is_blamed_on_its_count() {
-        let mut plan = WORDS[..22].to_vec();
-        plan[18..22].copy_from_slice(&[0, 1, 0, 0]);
-        assert_eq!(answer(&plan, NUMBERS), Some((4, 9)));
+        let mut plan = WORDS[..24].to_vec();
+        plan[20..24].copy_from_slice(&[0, 1, 0, 0]);
+        assert_eq!(answer(&plan, NUMBERS), Some((4, 11)));
         plan.push(17);
-        assert_eq!(answer(&plan, NUMBERS), Some((4, 9)));
+        assert_eq!(answer(&plan, NUMBERS), Some((4, 11)));
+    }
+
+    /// Words at 7 to 10: N and ending of one clip, then of the other; the first wrong one decides.
+    #[test]
+    fn an_ending_is_judged_between_its_own_count_and_the_next() {
+        for (words, refusal) in [
+            ([1, 0, 3, 0], None),
+            ([1, 1, 3, 0], None),
+            ([1, 1, 3, 1], None),
+            ([0, 2, 3, 0], Some((2, 7))),
+            ([1, 2, 0, 2], Some((14, 8))),
+            ([0, 0, 3, 2], Some((2, 7))),
+            ([1, 1, 4097, 2], Some((2, 9))),
+            ([1, 1, 3, 2], Some((14, 10))),
+        ] {
+            let mut plan = WORDS[..LENGTH].to_vec();
+            plan[7..11].copy_from_slice(&words);
+            assert_eq!(answer(&plan, NUMBERS), refusal, "{words:?}");
+        }
+        // Later words, a plan that ends behind the ending, and numbers are judged after it.
+        let wrong = [&WORDS[..8], &[2]].concat();
+        assert_eq!(answer(&wrong, 0), Some((14, 8)));
+        assert_eq!(answer(&WORDS[..8], 0), Some((1, 8)));
+        let parent = [&WORDS[..6], &[1, 1, 2]].concat();
+        assert_eq!(answer(&parent, 0), Some((3, 6)));
+    }
+
+    #[test]
+    fn endings_are_kept_with_their_clips() {
+        let figure = Figure {
+            plan: WORDS[..LENGTH].to_vec(),
+            numbers: vec![0; NUMBERS],
+        };
+        let plan = check(&figure).ok().unwrap();
+        let clips = plan.clips.iter().map(|clip| (clip.samples, clip.stops));
+        assert_eq!(clips.collect::<Vec<_>>(), [(1, false), (3, true)]);
     }
 
     /// Four states of 16 clip nodes each, and a fifth.
     #[test]
     fn the_65th_clip_node_is_blamed_at_its_kind() {
-        let mut plan = vec![1, 1, 1, 5, 0, 255, 1];
+        let mut plan = vec![1, 1, 1, 5, 0, 255, 1, 0];
         for _ in 0..4 {
             plan.push(31);
             plan.extend([0; 64]);

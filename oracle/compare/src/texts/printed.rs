@@ -48,8 +48,8 @@ mod tests {
     const ONE: u32 = 0x3f80_0000;
 
     #[test]
-    fn the_example_of_document_01_is_printed() {
-        let text = "figure,1,1,0,1,0\njoint,255\nclip,1,3f800000\nstate,1,0\nnode,0,0,0,0\n\
+    fn the_printed_example_is_printed() {
+        let text = "figure,1,1,0,1,0\njoint,255\nclip,1,3f800000,0\nstate,1,0\nnode,0,0,0,0\n\
             pose,3f800000,40000000,40400000,3f800000,3f800000,00000000,00000000,00000000\n";
         let line = "joint,0,3f800000,00000000,00000000,3f800000,00000000,3f800000,00000000,\
             40000000,00000000,00000000,3f800000,40400000,00000000,00000000,00000000,3f800000\n";
@@ -77,6 +77,7 @@ mod tests {
         let clip = Clip {
             samples: 2,
             rate: ONE,
+            ending: 0,
         };
         Draft {
             parameters: 1,

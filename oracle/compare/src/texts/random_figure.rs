@@ -81,12 +81,7 @@ fn good(generator: &mut Generator, style: Numbers, joints: u16) -> Draft {
         parents: (0..joints).map(|joint| parent(generator, joint)).collect(),
         ..Draft::default()
     };
-    let clips = count(generator, 3, 16).min(MOST_POSES / joints);
-    for _ in 0..clips {
-        let rate = number(generator, style) & positive(style);
-        let samples = count(generator, 2, 16).min(MOST_POSES / joints / clips);
-        draft.clips.push(Clip { samples, rate });
-    }
+    draft.clips = clips(generator, style, joints);
     let states = count(generator, 3, 16);
     draft.initial = below(generator, states);
     let leaves = leaves(generator, states);
@@ -95,6 +90,18 @@ fn good(generator: &mut Generator, style: Numbers, joints: u16) -> Draft {
         draft.states.push(state);
     }
     draft
+}
+
+/// About half of the figures have no stopping clip: these can be put to the Rust too.
+fn clips(generator: &mut Generator, style: Numbers, joints: u16) -> Vec<Clip> {
+    let count_of_clips = count(generator, 3, 16).min(MOST_POSES / joints);
+    let endings = generator.pick(&[1, 2, 2]);
+    let clip = |_| Clip {
+        rate: number(generator, style) & positive(style),
+        samples: count(generator, 2, 16).min(MOST_POSES / joints / count_of_clips),
+        ending: below(generator, endings),
+    };
+    (0..count_of_clips).map(clip).collect()
 }
 
 /// How many clip nodes each state has: few, or close to 64 in all.
@@ -243,7 +250,7 @@ fn any<'a, T>(generator: &mut Generator, items: &'a mut [T]) -> &'a mut T {
 /// What text can say and the start refuses: a count of 0, or a wrong word that is no count.
 fn put_fault(generator: &mut Generator, draft: &mut Draft) {
     let states = draft.states.len();
-    match generator.below(15) {
+    match generator.below(18) {
         0 => draft.parents.clear(),
         1 => draft.clips.clear(),
         2 => draft.states.clear(),
@@ -259,6 +266,7 @@ fn put_fault(generator: &mut Generator, draft: &mut Draft) {
         }
         11 => put_wrong_transition(generator, draft),
         12 => repeat_input(generator, draft),
+        13..=15 => put_wrong_endings(generator, draft),
         _ => put_wrong_node(generator, draft),
     }
 }
@@ -270,6 +278,16 @@ fn repeat_input(generator: &mut Generator, draft: &mut Draft) {
     let last = nodes.last_mut().filter(|node| node[0] > 0);
     if let (Some(input), Some(last)) = (input, last) {
         last[1 + generator.below(2) as usize] = input;
+    }
+}
+
+/// One clip's, or a few, and then a count among them: what comes first in the plan decides.
+fn put_wrong_endings(generator: &mut Generator, draft: &mut Draft) {
+    for _ in 0..=generator.below(2) {
+        any(generator, &mut draft.clips).ending = odd_word(generator, 2);
+    }
+    if generator.below(3) == 0 {
+        any(generator, &mut draft.clips).samples = 0;
     }
 }
 
@@ -290,4 +308,20 @@ fn put_wrong_transition(generator: &mut Generator, draft: &mut Draft) {
     let word = odd_word(generator, states);
     let transition = any(generator, transitions);
     *any(generator, &mut transition.words) = word;
+}
+
+#[cfg(test)]
+mod tests {
+    use super::*;
+
+    /// Both players of the reference get enough to do.
+    #[test]
+    fn about_half_of_the_figures_have_a_stopping_clip() {
+        let mut generator = Generator::new(8);
+        let drafts = (0..4000).map(|_| accepted(&mut generator));
+        let stops = |draft: &Draft| draft.clips.iter().any(|clip| clip.ending == 1);
+        let count = drafts.filter(stops).count();
+        println!("{count} of 4000");
+        assert!((1600..=2400).contains(&count), "{count} of 4000");
+    }
 }

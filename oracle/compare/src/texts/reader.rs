@@ -1,4 +1,4 @@
-//! The text reader, written from document 01 alone.
+//! The text reader, written from documents 01 and 02 alone.
 
 use super::figure::{Figure, Refusal};
 
@@ -32,24 +32,25 @@ struct Reader<'a> {
     figure: Figure,
 }
 
-impl Reader<'_> {
+impl<'a> Reader<'a> {
     fn whole(&mut self) -> Option<()> {
-        let ([joints, clips, parameters, states, initial], []) = self.line("figure")?;
+        let header = decimals(self.line("figure")?)?;
+        let [joints, clips, parameters, states, _initial] = header;
         at_most(joints, MOST_JOINTS)?;
         at_most(clips, MOST_CLIPS)?;
         at_most(parameters, MOST_PARAMETERS)?;
         at_most(states, MOST_STATES)?;
-        self.words(&[joints, clips, parameters, states, initial]);
+        self.words(&header);
         for _ in 0..joints {
-            let ([parent], []) = self.line("joint")?;
-            self.words(&[parent]);
+            let parent = decimals::<1>(self.line("joint")?)?;
+            self.words(&parent);
         }
         let samples = self.clips(clips)?;
         for _ in 0..states {
             self.state()?;
         }
         for _ in 0..samples * usize::from(joints) {
-            let ([], pose) = self.line::<0, 8>("pose")?;
+            let pose = floats::<8>(self.line("pose")?)?;
             self.numbers(&pose);
         }
         self.line += 1;
@@ -60,35 +61,36 @@ impl Reader<'_> {
     fn clips(&mut self, count: u16) -> Option<usize> {
         let mut all = 0;
         for _ in 0..count {
-            let ([samples], [rate]) = self.line("clip")?;
+            let [samples, rate, ending] = self.line("clip")?;
+            let [samples, ending] = decimals([samples, ending])?;
             at_most(samples, MOST_SAMPLES)?;
-            self.words(&[samples]);
-            self.numbers(&[rate]);
+            self.words(&[samples, ending]);
+            self.numbers(&[float_bits(rate)?]);
             all += usize::from(samples);
         }
         Some(all)
     }
 
     fn state(&mut self) -> Option<()> {
-        let ([nodes, transitions], []) = self.line("state")?;
+        let [nodes, transitions] = decimals(self.line("state")?)?;
         at_most(nodes, MOST_NODES)?;
         at_most(transitions, MOST_TRANSITIONS)?;
         self.words(&[nodes]);
         for _ in 0..nodes {
-            let (node, []) = self.line::<4, 0>("node")?;
+            let node = decimals::<4>(self.line("node")?)?;
             self.words(&node);
         }
         self.words(&[transitions]);
         for _ in 0..transitions {
-            let (words, numbers) = self.line::<3, 2>("go")?;
-            self.words(&words);
-            self.numbers(&numbers);
+            let [parameter, operator, target, value, duration] = self.line("go")?;
+            self.words(&decimals([parameter, operator, target])?);
+            self.numbers(&floats([value, duration])?);
         }
         Some(())
     }
 
-    /// The next line: its name, `D` decimals and then `F` floats.
-    fn line<const D: usize, const F: usize>(&mut self, name: &str) -> Option<([u16; D], [u32; F])> {
+    /// The fields of the next line, which are so many behind its name.
+    fn line<const F: usize>(&mut self, name: &str) -> Option<[&'a [u8]; F]> {
         self.line += 1;
         let end = self.rest.iter().position(|&byte| byte == b'\n')?;
         let mut fields = self.rest[..end].split(|&byte| byte == b',');
@@ -96,15 +98,7 @@ impl Reader<'_> {
         if fields.next()? != name.as_bytes() {
             return None;
         }
-        let mut decimals = [0; D];
-        for value in &mut decimals {
-            *value = decimal(fields.next()?)?;
-        }
-        let mut floats = [0; F];
-        for bits in &mut floats {
-            *bits = float_bits(fields.next()?)?;
-        }
-        fields.next().is_none().then_some((decimals, floats))
+        fields.collect::<Vec<_>>().try_into().ok()
     }
 
     fn words(&mut self, words: &[u16]) {
@@ -118,6 +112,19 @@ impl Reader<'_> {
 
 fn at_most(count: u16, limit: u16) -> Option<()> {
     (count <= limit).then_some(())
+}
+
+fn decimals<const F: usize>(fields: [&[u8]; F]) -> Option<[u16; F]> {
+    all(fields, decimal)
+}
+
+fn floats<const F: usize>(fields: [&[u8]; F]) -> Option<[u32; F]> {
+    all(fields, float_bits)
+}
+
+fn all<T, const F: usize>(fields: [&[u8]; F], one: fn(&[u8]) -> Option<T>) -> Option<[T; F]> {
+    let values: Option<Vec<T>> = fields.into_iter().map(one).collect();
+    values?.try_into().ok()
 }
 
 /// A decimal to 65535 without leading zeros.
@@ -148,14 +155,14 @@ mod tests {
     use super::*;
     use crate::texts::edges::BLEND;
 
-    /// The words and numbers of `BLEND`, each state's T after its nodes.
+    /// The words and numbers of `BLEND`, each clip's ending after its N, each state's T after its nodes.
     #[test]
     fn puts_words_and_numbers_in_the_order_of_the_plan() {
         let figure = read(BLEND.as_bytes()).unwrap();
         let plan = [
             &[1, 2, 1, 2, 0][..],
             &[255],
-            &[1, 1],
+            &[1, 0, 1, 0],
             &[3],
             &[0, 0, 0, 0],
             &[0, 1, 0, 0],

@@ -18,10 +18,11 @@ const ODD_WORDS: [&str; 9] = [
 ];
 
 /// Lines that a text may have, at the wrong place.
-const ODD_LINES: [&str; 7] = [
+const ODD_LINES: [&str; 8] = [
     "\n",
     "figure,1,1,0,1,0\n",
     "joint,255\n",
+    "clip,1,3f800000,0\n",
     "clip,1,3f800000\n",
     "state,1,0\n",
     "node,0,0,0,0\n",

@@ -11,10 +11,12 @@ use Rattle.model.specs.Plan.{maxParameters, maxNodes, maxClipNodes, clipCount}
 use Rattle.model.specs.Clips.{instanceAt}
 use Rattle.animation.proofs.instance_at.Reads as instance-at-reads
 use Rattle.layout.proofs.node_at.Reads as node-at-reads
+use Rattle.blend_tree.specs.Sampling.{Sized, samplesAt}
 use Rattle.blend_tree.proofs.NodeLaws.{passes, node-small, slot-found, slot-small, NodeRead, is-clip, no-clip, clip-inside, inputs-before, parameter-small}
 use Rattle.blend_tree.proofs.SamplingLaws.{clip-sized, sampled}
 use Rattle.blend_tree.proofs.PoseLaws.{of-clip, of-inputs}
 use Rattle.blend_tree.proofs.sampling.clip_at.Reads as clip-at-reads
+use Rattle.blend_tree.proofs.sampling.clip_position.Reads as clip-position-reads
 use Rattle.blend_tree.proofs.sampling.clip_samples.Reads as clip-samples-reads
 use Rattle.blend_tree.proofs.poses.clip_poses.Reads as clip-poses-reads
 use Rattle.blend_tree.proofs.poses.combine_all.Reads as combine-all-reads
@@ -42,6 +44,8 @@ claims t = (
   instance-at-reads.Learnt,
   clip-at-reads.Asked,
   clip-at-reads.Learnt,
+  clip-position-reads.Asked,
+  clip-position-reads.Learnt,
   clip-samples-reads.Asked,
   clip-samples-reads.Learnt,
   clip-poses-reads.Asked,
@@ -83,14 +87,20 @@ module _ (t : ℕ) where
   clip-at-requires : lts.Need-clip-at-requires (claims t) (node-poses-at t) reads.Post
   clip-at-requires c κs = (start (c .before .before .before .before) .pre .1 .0 .0, clip-there c)
 
-  clip-samples-requires : lts.Need-clip-samples-requires (claims t) (node-poses-at t) reads.Post
-  clip-samples-requires c κs =
+  sized : (c : lts.After-clip-at (claims t) (node-poses-at t) reads.Post) → Sized (c .clip-at .result)
+  sized c =
       let i = c .before in
       clip-sized (start (i .before .before .before .before) .pre .1 .0 .0) (clip-there i) (c .clip-at .ensures)
 
+  clip-position-requires : lts.Need-clip-position-requires (claims t) (node-poses-at t) reads.Post
+  clip-position-requires c κs = sized c
+
+  clip-samples-requires : lts.Need-clip-samples-requires (claims t) (node-poses-at t) reads.Post
+  clip-samples-requires c κs = sized (c .before)
+
   clip-poses-requires : lts.Need-clip-poses-requires (claims t) (node-poses-at t) reads.Post
   clip-poses-requires c κs =
-      let k = c .before .before in
+      let k = c .before .before .before in
       let i = k .before in
       let s = start (i .before .before .before .before) in
       let r = s .pre .1 in
@@ -99,14 +109,15 @@ module _ (t : ℕ) where
   returns : lts.Need-returns (claims t) (node-poses-at t) reads.Post
   returns c j h =
       let q = c .before .before in
-      let v = q .before .before in
+      let l = q .before .before in
+      let v = l .before in
       let i = v .before .before in
       let k = i .before .before in
       let s = start k in
       let r = s .pre .1 in
       c .clip-poses .ensures j h
       ∙ of-clip (read k) (s .args .numbers .now) (s .args .parameters .now) (s .args .state .time) (s .args .instances .now) (s .args .joints .first + j) (r .0 .0) (i .if1 .taken)
-      (v .instance-at .ensures ∙ ap (instanceAt (s .args .instances .now)) (slot-found (passes (r .0 .0)) (r .0 .1) (r .2) (r .0 .2))) (q .before .clip-at .ensures) (q .clip-samples .ensures)
+      (v .instance-at .ensures ∙ ap (instanceAt (s .args .instances .now)) (slot-found (passes (r .0 .0)) (r .0 .1) (r .2) (r .0 .2))) (l .clip-at .ensures) (q .clip-samples .ensures ∙ ap (samplesAt _) (q .before .clip-position .ensures))
 
   node-poses-requires : lts.Need-node-poses-requires (claims t) (node-poses-at t) reads.Post
   node-poses-requires c κs =
@@ -149,6 +160,7 @@ pub +node-poses-spec : {M : Type 1} → statement M
     (λ c. omega (arith, instance-there t c))
     (λ c κs. instance-there t c)
     (clip-at-requires t)
+    (clip-position-requires t)
     (clip-samples-requires t)
     (clip-poses-requires t)
     (returns t)

@@ -2,7 +2,7 @@
 use borrow.Author.Needs.{needs}
 use native.Mathlib.Omega.{arith}
 use lib.ListN.{length}
-use Rattle.model.specs.Laws.Passed.{few-joints}
+use Rattle.model.specs.Laws.Passed.{few-joints, sample-count-there}
 use Rattle.layout.proofs.Laws.{joints-found}
 use Rattle.blend_tree.specs.Sampling.{clipOf}
 use Rattle.blend_tree.proofs.NodeLaws.{passes}
@@ -17,13 +17,23 @@ samples-before-requires : tie.Need-samples-before-requires
 samples-before-requires c κs =
     let s = c .before .before .before in
     let found = joints-found _ (s .pre .0 .found) in
-    (found, omega (arith, found, few-joints _ (length (s .args .numbers .now)) (s .pre .0 .passed)), omega (arith, clip-small (s .pre .0) (s .pre .1)))
+    let ok = s .pre .0 .passed in
+    let n = length (s .args .numbers .now) in (
+      found,
+      omega (arith, found, few-joints _ n ok),
+      omega (arith, clip-small (s .pre .0) (s .pre .1)),
+      omega (arith, sample-count-there _ n ok _ (s .pre .1)),
+    )
 
 returns : tie.Need-returns
 unfolding clipOf
 returns c =
-    let b = c .before in
-    rw (b .before .sample-count .ensures, b .samples-before .ensures .0, c .rate .ensures (b .before .before .before .before .args .plan .now))
+    let s = c .before in
+    let b = s .before in
+    rw (b .before .sample-count .ensures, b .samples-before .ensures .0, s .is-stopping .ensures, c .rate .ensures (b .before .before .before .before .args .plan .now))
+
+is-stopping-requires : tie.Need-is-stopping-requires
+is-stopping-requires c κs = let p = c .before .before .before .before .pre in (passes (p .0), p .0 .found, p .1)
 
 pub clip-at-spec : {M : Type 1} → statement M
-clip-at-spec = tie.close (tie.spec sample-count-requires samples-before-requires (λ c κs. search needs) returns)
+clip-at-spec = tie.close (tie.spec sample-count-requires samples-before-requires is-stopping-requires (λ c κs. search needs) returns)

@@ -4,7 +4,7 @@ use Rattle.blend_tree.proofs.sampling.clip_position.Statement.{statemen
 use Rattle.blend_tree.proofs.sampling.clip_position.Tie as tie
 
 returns : tie.Need-returns
-returns c = rw (c .before .local-time .ensures)
+returns c = rw (c .sampled-position .ensures, c .before .before .local-time .ensures)
 
 pub clip-position-spec : {M : Type 1} → statement M
-clip-position-spec = tie.close (tie.spec (search needs) returns)
+clip-position-spec = tie.close (tie.spec (search needs) (search needs) returns)

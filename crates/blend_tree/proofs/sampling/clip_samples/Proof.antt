@@ -7,23 +7,22 @@ use Rattle.blend_tree.proofs.SamplingLaws.{position-below}
 use Rattle.blend_tree.proofs.sampling.clip_samples.Statement.{statement}
 use Rattle.blend_tree.proofs.sampling.clip_samples.Tie as tie
 
-add-t6 : tie.Need-add-t6
-add-t6 c =
+add-t4 : tie.Need-add-t4
+add-t4 c =
     let q = c .before .before in
-    let r = q .before .before .pre in
+    let r = q .before .pre in
     omega (arith, r .1, r .2, position-below _ (r .0) (q .position-in .ensures))
 
-add-t7 : tie.Need-add-t7
-add-t7 c =
+add-t5 : tie.Need-add-t5
+add-t5 c =
     let q = c .before .before .before .before in
-    let r = q .before .before .pre in
+    let r = q .before .pre in
     omega (arith, r .1, r .2, position-below _ (r .0) (q .position-in .ensures))
 
 returns : tie.Need-returns
 unfolding positionIn samplesAt
 returns c =
-    let q = c .before .before .before .before in
-    rw (q .position-in .ensures, q .before .clip-position .ensures)
+    rw (c .before .before .before .before .position-in .ensures)
 
 pub clip-samples-spec : {M : Type 1} → statement M
-clip-samples-spec = tie.close (tie.spec (search needs) (search needs) add-t6 add-t7 returns)
+clip-samples-spec = tie.close (tie.spec (search needs) add-t4 add-t5 returns)

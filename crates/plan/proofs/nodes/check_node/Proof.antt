@@ -13,12 +13,12 @@ returns c = stops _ _ _ (c .before .match .keys2) (c .before .before .word-up-to
 returns-2 : tie.Need-returns-2
 returns-2 c =
     let w = c .before .before in
-    clip-goes _ _ _ _ _ (w .before .before .before .word-up-to .ensures) (w .before .enum-told .given .1) _ (w .word .ensures .0) _ (c .before .if1 .taken) (c .check-clip .ensures)
+    clip-goes _ _ _ _ _ (w .before .before .before .word-up-to .ensures) (w .before .enum-told .given .1) _ (w .word .ensures .0) _ (c .before .if1 .taken) (c .check-clip-node .ensures)
 
 returns-3 : tie.Need-returns-3
 returns-3 c =
     let w = c .before .before in
-    blend-goes _ _ _ _ _ (w .before .before .before .word-up-to .ensures) (w .before .enum-told .given .1) _ (w .word .ensures .0) _ (c .before .if1 .left) (c .check-blend .ensures)
+    blend-goes _ _ _ _ _ (w .before .before .before .word-up-to .ensures) (w .before .enum-told .given .1) _ (w .word .ensures .0) _ (c .before .if1 .left) (c .check-blend-node .ensures)
 
 pub check-node-spec : {M : Type 1} → statement M
 check-node-spec =

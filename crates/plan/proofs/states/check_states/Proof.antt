@@ -3,7 +3,7 @@ use borrow.Author.Needs.{needs}
 use Prim.Native.Nat.{_+_, _*_, _-_, _≤_}
 use native.Mathlib.Omega.{arith}
 use mathlib.Core.Path.{_≡_, refl}
-use Rattle.model.specs.Plan.{maxJoints, maxClips, maxNodes, maxTransitions, parentAt, stateAt, total, clipNodesBefore, transitionsBefore}
+use Rattle.model.specs.Plan.{maxNodes, maxTransitions, maxStatesAt, stateAt, total, clipNodesBefore, transitionsBefore}
 use Rattle.model.specs.Check.{checkState}
 use Rattle.model.proofs.Tags.{never}
 use Rattle.layout.proofs.Laws.{clips-next, state-next, transitions-next}
@@ -14,7 +14,7 @@ use Rattle.plan.proofs.states.check_states.Tie as tie
 
 abbrev Inv-loop : tie.InvT-loop
 Inv-loop plan from counts states at₀ clip-node₀ transitions₀ s₀ at clip-node transitions s =
-    Passing (checkState plan) states s × (at ≡ stateAt plan s) × (clip-node ≡ clipNodesBefore plan s) × (transitions ≡ transitionsBefore plan s) × (at ≤ parentAt maxJoints + maxClips + (2 + 4 * maxNodes + 3 * maxTransitions) * s) × (clip-node ≤ 16 * s) × (transitions ≤ maxTransitions * s)
+    Passing (checkState plan) states s × (at ≡ stateAt plan s) × (clip-node ≡ clipNodesBefore plan s) × (transitions ≡ transitionsBefore plan s) × (at ≤ maxStatesAt + (2 + 4 * maxNodes + 3 * maxTransitions) * s) × (clip-node ≤ 16 * s) × (transitions ≤ maxTransitions * s)
 
 abbrev μ-loop : tie.MeasureT-loop
 μ-loop plan from counts states at₀ clip-node₀ transitions₀ s₀ at clip-node transitions s = states - s

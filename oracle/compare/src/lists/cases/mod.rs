@@ -1,5 +1,6 @@
 //! The recorded lists one by one.
 
+mod endings;
 mod players;
 mod refused;
 mod transitions;
@@ -24,6 +25,9 @@ pub fn cases() -> Vec<List> {
         transitions::durations(),
         transitions::rings(),
         transitions::begun_by_hand(),
+        endings::clips(),
+        endings::joins(),
+        endings::transitions(),
         players::speeds(),
         players::clocks(),
         players::parameters(),

@@ -27,12 +27,24 @@ fn calls() -> Vec<Call> {
 /// A name, what is refused and why, and what is done to a good figure.
 type Wrong = (&'static str, &'static str, fn(&mut Draft));
 
-const STARTS: [Wrong; 10] = [
+const STARTS: [Wrong; 13] = [
     ("start-no-joints", "2: no joints", |d| d.parents.clear()),
     ("start-no-states", "2: no states", |d| d.states.clear()),
     ("start-no-samples", "2: no samples", |d| {
         d.clips[1].samples = 0
     }),
+    ("start-ending", "14: an ending 2", |d| d.clips[0].ending = 2),
+    ("start-last-ending", "14: an ending 65535", |d| {
+        d.clips[1].ending = 65535
+    }),
+    (
+        "start-ending-and-count",
+        "2: an N of 0 before an ending 2",
+        |d| {
+            d.clips[0].samples = 0;
+            d.clips[1].ending = 2
+        },
+    ),
     ("start-initial", "2: an initial state 2 of 2", |d| {
         d.initial = 2
     }),

@@ -1,9 +1,9 @@
--- `plan::nodes::check_clip` meets its contract: the clip node's number, then three words. Assumes nothing.
+-- `plan::nodes::check_clip_node` meets its contract: the clip node's number, then three words. Assumes nothing.
 use borrow.Author.Needs.{needs}
 use mathlib.Core.Path.{_∙_}
 use Rattle.plan.proofs.NodeLaws.{clip-full, clip-stops, clip-stops-second, clip-ends}
-use Rattle.plan.proofs.nodes.check_clip.Statement.{statement}
-use Rattle.plan.proofs.nodes.check_clip.Tie as tie
+use Rattle.plan.proofs.nodes.check_clip_node.Statement.{statement}
+use Rattle.plan.proofs.nodes.check_clip_node.Tie as tie
 
 returns : tie.Need-returns
 returns c = c .refused .ensures ∙ clip-full _ _ _ (c .before .if1 .taken)
@@ -28,8 +28,8 @@ returns-4 c =
     let a = told .before .before in
     clip-ends _ _ _ (a .before .if1 .left) _ (a .word-below .ensures) (told .enum-told .given .1) _ (b .before .word .ensures .0) _ (b .word-is .ensures) (w .before .enum-told3 .given .1) _ (w .word2 .ensures .0) _ (c .word-is2 .ensures)
 
-pub check-clip-spec : {M : Type 1} → statement M
-check-clip-spec =
+pub check-clip-node-spec : {M : Type 1} → statement M
+check-clip-node-spec =
     tie.close
     (tie.spec
     (search needs)

@@ -1,4 +1,4 @@
-//! A player as document 01 has it.
+//! A player as document 01 has it, and what two players are compared by.
 
 use crate::judge::{bits, double_bits};
 

@@ -1,0 +1,99 @@
+//! The player by documents 01 and 02, computed here once more without a call to the Rust, joint by
+//! joint over a plan and its numbers. It plays every figure; what the Rust can play too is held to
+//! the Rust (`reference`). The plan check is the one that the Rust's player here uses as well.
+
+pub mod clip;
+mod controller;
+pub mod figure;
+pub mod pose;
+pub mod rotation;
+pub mod skeleton;
+pub mod tree;
+
+use crate::player::{Player, BLANK, PARAMETERS};
+use crate::texts::figure::{Figure, Refusal};
+use figure::Checked;
+use rotation::Matrix;
+
+pub struct Model {
+    figure: Result<Checked, Refusal>,
+    player: Player,
+}
+
+impl Model {
+    /// A fresh player of the figure, or the blank one where the figure is refused.
+    pub fn start(figure: &Figure) -> Model {
+        let figure = Checked::new(figure);
+        let player = figure.as_ref().map_or(BLANK, controller::fresh);
+        Model { figure, player }
+    }
+
+    /// The start's answer.
+    pub fn answer(&self) -> Result<(), Refusal> {
+        match &self.figure {
+            Ok(_) => Ok(()),
+            Err(refusal) => Err(*refusal),
+        }
+    }
+
+    /// Whether the figure is accepted, and a clip of it stops.
+    pub fn has_stopping_clip(&self) -> bool {
+        let figure = self.figure.as_ref();
+        figure.is_ok_and(|figure| figure.plan.clips.iter().any(|clip| clip.stops))
+    }
+
+    pub fn player(&self) -> &Player {
+        &self.player
+    }
+
+    /// Takes another player's place, whatever it holds.
+    pub fn store(&mut self, player: &Player) {
+        self.player = player.clone();
+    }
+
+    pub fn update(&mut self, delta: f64) {
+        self.player.clock += delta * self.player.speed;
+    }
+
+    pub fn speed(&mut self, speed: f64) {
+        self.player.speed = speed;
+    }
+
+    pub fn set(&mut self, parameter: usize, value: f32) -> Result<(), Refusal> {
+        if parameter >= PARAMETERS {
+            return refused(8);
+        }
+        self.player.parameters[parameter] = value;
+        Ok(())
+    }
+
+    /// Each joint's matrix, for an output of so many floats.
+    pub fn frame(&mut self, ext: f64, length: usize) -> Result<Vec<Matrix>, Refusal> {
+        let figure = self.figure.as_ref().map_err(|refusal| *refusal)?;
+        let player = &mut self.player;
+        let is_absent = |state: usize| state >= figure.plan.states.len();
+        let target = player.transition.map(|running| running.target);
+        if is_absent(player.state) || target.is_some_and(is_absent) {
+            return refused(9);
+        }
+        if length < 16 * figure.joints() {
+            return refused(10);
+        }
+        let now = player.clock + ext;
+        controller::step(figure, player, now);
+        let poses = controller::poses(figure, player, ext);
+        Ok(skeleton::matrices(&figure.plan.parents, &poses))
+    }
+
+    pub fn page_frame(&mut self, ext: f64, length: usize) -> Result<Vec<Matrix>, Refusal> {
+        let matrices = self.frame(ext, length)?;
+        Ok(matrices.iter().map(skeleton::page_matrix).collect())
+    }
+}
+
+fn refused<T>(number: u8) -> Result<T, Refusal> {
+    Err(Refusal { number, place: 0 })
+}
+
+#[cfg(test)]
+mod tests;

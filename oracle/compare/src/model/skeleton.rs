@@ -1,0 +1,30 @@
+//! Joints under their parents.
+
+use super::pose::Pose;
+use super::rotation::{product, Matrix};
+
+const ROOT: u16 = 255;
+
+/// Each joint's matrix.
+pub fn matrices(parents: &[u16], poses: &[Pose]) -> Vec<Matrix> {
+    let mut matrices: Vec<Matrix> = Vec::new();
+    for (&parent, pose) in parents.iter().zip(poses) {
+        let above = match parent {
+            ROOT => Pose::IDENTITY.matrix(),
+            parent => matrices[usize::from(parent)],
+        };
+        matrices.push(product(&above, &pose.matrix()));
+    }
+    matrices
+}
+
+/// The matrix as a page takes it: its upper 3x3 part transposed.
+pub fn page_matrix(matrix: &Matrix) -> Matrix {
+    let mut page = *matrix;
+    for row in 0..3 {
+        for column in 0..3 {
+            page[row][column] = matrix[column][row];
+        }
+    }
+    page
+}
