@@ -23,7 +23,7 @@ secondIndex n position = ceilingIndex position % n
 unfoldable pub factor : Float → Float
 factor position = position -₃₂ indexFloat (floorIndex position)
 
--- Card 1: 'a stopping clip at position N − 1 or above is sampled as at N − 1'. A NaN is not above
+-- Card 1, 'sampled as at N − 1': where a stopping clip is 'at position N − 1 or above', which NaN is not
 unfoldable pub sampledPosition : Bool → ℕ → Float → Float
 sampledPosition stopping n position = cond (stopping && le (indexFloat (n - 1)) position) (indexFloat (n - 1)) position
 

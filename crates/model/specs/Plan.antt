@@ -98,7 +98,7 @@ sampleCountAt plan c = parentAt (jointCount plan) + clipWords * c
 unfoldable pub sampleCount : List ℕ → ℕ → ℕ
 sampleCount plan c = word plan (sampleCountAt plan c)
 
--- Card 1, 'each N is followed by an ending word'
+-- Card 1, 'ending word': it follows its N
 unfoldable pub endingAt : List ℕ → ℕ → ℕ
 endingAt plan c = sampleCountAt plan c + 1
 
