@@ -136,6 +136,15 @@ module _ (text : List ℕ) {f : Field} {s : Text.Field} (read : found text f ≡
   unfolding found behindField
   with-value e = rw (← read, e)
 
+-- and the field behind it to g: `later` follows that
+module _ (text : List ℕ) {f g : Field} {s t : Text.Field} (more later : ℕ → List ℕ → CallLine) {v end : ℕ} (first : found text f ≡ s) (is : f ≡ Value v end)
+    (second : found text g ≡ t) (next : more v (drop end text) ≡ behindField t later) where
+  pub without-second : g ≡ Nothing → malformed ≡ behindField s more
+  without-second e = without text second later e ∙ sym next ∙ with-value text first more is
+
+  pub with-both : {w stop : ℕ} → g ≡ Value w stop → later w (drop stop text) ≡ behindField s more
+  with-both e = with-value text second later e ∙ sym next ∙ with-value text first more is
+
 -- the program's call is the text's
 pub ends : (call : Call) {c : Run.Call} → ((rest : List ℕ) → lineOf call rest ≡ line c rest) → (s : List ℕ) → lineEndOf call s ≡ lineEnd c s
 unfolding lineEndOf lineEnd

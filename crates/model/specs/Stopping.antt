@@ -5,15 +5,17 @@ use native.Mathlib.Nat.{mod-eq-of-lt}
 use mathlib.Core.Path.{_≡_, refl}
 use mathlib.Core.Bool.{true, false}
 use mathlib.Core.List.{List, [], _∷_}
+use lib.ListN.{length}
 use lib.Ieee.{Float, nan, inf, fin, lt, le, eq, binary32, toBits, ofBits}
 use lib.Ieee.Exact.{HasValue}
 use Rattle.model.specs.Numbers.{0f, half, floorIndex, ceilingIndex, indexFloat}
 use Rattle.model.specs.Pose.{identityPose, lerp}
 use Rattle.model.specs.Answers.{accepted, refused}
-use Rattle.model.specs.Plan.{maxSamples, sampleCount, isStopping, samplePose}
+use Rattle.model.specs.Plan.{maxSamples, clipCount, sampleCount, isStopping, samplePose}
 use Rattle.model.specs.Check.{check}
 use Rattle.model.specs.Clips.{firstIndex, secondIndex, factor, sampledPosition, poseAt}
 use Rattle.model.specs.Laws.Opened.{check-opened, floats-opened}
+use Rattle.model.specs.Laws.Passed.{some-samples, few-samples}
 use Rattle.model.specs.Laws.Wholes.{floor-of, ceiling-of, index-value, whole-less-itself}
 
 -- 'both indices N − 1, factor 0': at position N − 1, which is a float for every N that passes
@@ -32,14 +34,17 @@ at-last n some few =
     let below : (n - 1) % n ≡ n - 1 = mod-eq-of-lt {n = n - 1} {m = n} (omega arith) in
     record { first = rw (floor, below); second = rw (ceiling, below); no-factor = rw floor (whole-less-itself (n - 1) (omega arith)) }
 
--- the whole of it: the pose of a stopping clip 'at position N − 1 or above', 'lerp as ever'
-pub held : (plan : List ℕ) (numbers : List Float) (c j : ℕ) (position : Float) → let n = sampleCount plan c in
-    0 < n → n ≤ maxSamples → isStopping plan c ≡ true → le (indexFloat (n - 1)) position ≡ true
-    → let last = samplePose plan numbers c (n - 1) j in poseAt plan numbers c j position ≡ lerp last last 0f
-unfolding poseAt sampledPosition
-held plan numbers c j position some few stops above =
-    let l = at-last (sampleCount plan c) some few in
-    rw (stops, above, l .first, l .second, l .no-factor)
+-- the whole of it, in a figure that passes: a stopping clip 'at position N − 1 or above' shows its last sample, 'lerp as ever'
+module _ (plan : List ℕ) (numbers : List Float) (passed : check plan (length numbers) ≡ accepted) (c : ℕ) (inside : c < clipCount plan) where
+  abbrev n : ℕ
+  n = sampleCount plan c
+
+  pub held : isStopping plan c ≡ true → (position : Float) → le (indexFloat (n - 1)) position ≡ true → (j : ℕ)
+      → let last = samplePose plan numbers c (n - 1) j in poseAt plan numbers c j position ≡ lerp last last 0f
+  unfolding poseAt sampledPosition
+  held stops position above j =
+      let l = at-last n (some-samples plan (length numbers) passed c inside) (few-samples plan (length numbers) passed c inside) in
+      rw (stops, above, l .first, l .second, l .no-factor)
 
 -- 'below that .. as before'
 pub below-as-before : (n : ℕ) (position : Float) → le (indexFloat (n - 1)) position ≡ false → sampledPosition true n position ≡ position
@@ -73,24 +78,24 @@ looping-as-before n position = refl
 
 -- ---- indices and factor in a stopping clip, by computing. A position is given by its bits
 
-abbrev Sampled : ℕ → ℕ → ℕ → ℕ → Float → Type 0
-Sampled n bits first second f =
+abbrev SampledAs : ℕ → ℕ → ℕ → ℕ → Float → Type 0
+SampledAs n bits first second f =
     let at = sampledPosition true n (ofBits binary32 bits) in
     (firstIndex n at ≡ first) × (secondIndex n at ≡ second) × (factor at ≡ f)
 
 pub record StoppingCases : Type 0 where
   -- four samples, at 2.5, 3, 3.5, 4 and -0.5
-  pub below : Sampled 4 0x4020_0000 2 3 half
-  pub last : Sampled 4 0x4040_0000 3 3 0f
-  pub between : Sampled 4 0x4060_0000 3 3 0f
-  pub above : Sampled 4 0x4080_0000 3 3 0f
-  pub negative : Sampled 4 0xbf00_0000 0 0 (ofBits binary32 0xbf00_0000)
+  pub below : SampledAs 4 0x4020_0000 2 3 half
+  pub last : SampledAs 4 0x4040_0000 3 3 0f
+  pub between : SampledAs 4 0x4060_0000 3 3 0f
+  pub above : SampledAs 4 0x4080_0000 3 3 0f
+  pub negative : SampledAs 4 0xbf00_0000 0 0 (ofBits binary32 0xbf00_0000)
   -- -infinity and NaN are not above
-  pub minus-infinity : Sampled 4 0xff80_0000 0 0 (inf true)
-  pub not-a-number : Sampled 4 0x7fc0_0000 0 0 nan
+  pub minus-infinity : SampledAs 4 0xff80_0000 0 0 (inf true)
+  pub not-a-number : SampledAs 4 0x7fc0_0000 0 0 nan
   -- one sample, at -0: the factor is +0
-  pub minus-zero : Sampled 1 0x8000_0000 0 0 0f
-  pub below-zero : Sampled 1 0xbf00_0000 0 0 (ofBits binary32 0xbf00_0000)
+  pub minus-zero : SampledAs 1 0x8000_0000 0 0 0f
+  pub below-zero : SampledAs 1 0xbf00_0000 0 0 (ofBits binary32 0xbf00_0000)
   -- a lerp of a sample with itself is not the sample, since the root is approximate
   pub still-a-lerp : toBits binary32 (lerp identityPose identityPose 0f .rotation .w) ≡ 0x3f7f_910f
 

@@ -8,7 +8,7 @@ use Rattle.model.specs.Run as Run
 use Rattle.fields.specs.Found.{found}
 use Rattle.calls.specs.CallText.{line, wideField, decimalField, frameLine}
 use Rattle.calls.specs.Read.{lineOf}
-use Rattle.calls.proofs.LineLaws.{wide-read, field-read, none-read, same-read, without, with-value, ends}
+use Rattle.calls.proofs.LineLaws.{wide-read, field-read, none-read, same-read, without, without-second, with-both, ends}
 use Rattle.calls.proofs.frame_line.Statement.{statement}
 use Rattle.calls.proofs.frame_line.Tie as tie
 
@@ -30,8 +30,7 @@ unfolding frameLine
 returns-2 c =
     let l = c .before .before .before in
     let x = l .before .before .before in
-    none-read (c .malformed2 .ensures)
-    (without _ (count l) _ (c .before .enum-told2 .given .1) ∙ with-value _ (ext (x .before .before)) _ (x .ext .given .1))
+    none-read (c .malformed2 .ensures) (without-second _ _ _ (ext (x .before .before)) (x .ext .given .1) (count l) refl (c .before .enum-told2 .given .1))
 
 returns-3 : tie.Need-returns-3
 unfolding frameLine lineOf
@@ -42,7 +41,7 @@ returns-3 c =
     let kind = x .before .before .before .before .before .args .kind in
     same-read (c .line-end .ensures)
     (ends _ (λ rest. ap (λ d. line (Run.Frame kind d (n .length .given .0 .0)) rest) (c .before .f64-from-bits .ensures)) _
-    ∙ with-value _ (count l) _ (n .length .given .1) ∙ with-value _ (ext (x .before .before)) _ (x .ext .given .1))
+    ∙ with-both _ _ _ (ext (x .before .before)) (x .ext .given .1) (count l) refl (n .length .given .1))
 
 pub frame-line-spec : {M : Type 1} → statement M
 frame-line-spec =

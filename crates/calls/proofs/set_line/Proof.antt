@@ -9,7 +9,7 @@ use Rattle.model.specs.Run as Run
 use Rattle.fields.specs.Found.{found}
 use Rattle.calls.specs.CallText.{line, decimalField, bitsField, setLine}
 use Rattle.calls.specs.Read.{lineOf}
-use Rattle.calls.proofs.LineLaws.{field-read, none-read, same-read, without, with-value, ends, bits-fit}
+use Rattle.calls.proofs.LineLaws.{field-read, none-read, same-read, without, without-second, with-both, ends, bits-fit}
 use Rattle.calls.proofs.set_line.Statement.{statement}
 use Rattle.calls.proofs.set_line.Tie as tie
 
@@ -31,8 +31,7 @@ unfolding setLine
 returns-2 c =
     let b = c .before .before .before in
     let n = b .before .before .before in
-    none-read (c .malformed2 .ensures)
-    (without _ (bits b) _ (c .before .enum-told2 .given .1) ∙ with-value _ (number (n .before .before)) _ (n .number .given .1))
+    none-read (c .malformed2 .ensures) (without-second _ _ _ (number (n .before .before)) (n .number .given .1) (bits b) refl (c .before .enum-told2 .given .1))
 
 cast-f32-from-bits : tie.Need-cast-f32-from-bits
 cast-f32-from-bits c =
@@ -47,7 +46,7 @@ returns-3 c =
     let n = b .before .before .before in
     same-read (c .line-end .ensures)
     (ends _ (λ rest. ap (λ x. line (Run.Set (n .number .given .0 .0) x) rest) (c .before .f32-from-bits .ensures)) _
-    ∙ with-value _ (bits b) _ (v .bits .given .1) ∙ with-value _ (number (n .before .before)) _ (n .number .given .1))
+    ∙ with-both _ _ _ (number (n .before .before)) (n .number .given .1) (bits b) refl (v .bits .given .1))
 
 pub set-line-spec : {M : Type 1} → statement M
 set-line-spec =
