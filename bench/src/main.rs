@@ -151,36 +151,36 @@ fn measure_late(size: Size, time: Duration) -> f64 {
     archive.play(LATE, EXT);
     let shown = archive.output.clone();
     archive.play(DELTA, EXT);
-    // Held clips show what they showed, looping ones go on.
-    assert_eq!(size.stops, archive.output == shown);
+    // Held clips and pauses show what they showed, looping ones go on.
+    let still = size.stops || size.samples == 0;
+    assert_eq!(still, archive.output == shown);
     let mut timer = Timer::new(|| archive.play(DELTA, EXT));
     rounds(time, || {
         timer.batch(|| archive.play(black_box(DELTA), black_box(EXT)))
     });
-    assert!(!size.stops || archive.output == shown);
+    assert!(!still || archive.output == shown);
     timer.least
 }
 
-/// The Rust has no clips that stop, so this is the archive alone.
+/// The Rust has no clips that stop and none without samples, so this is the archive alone.
 fn endings(time: Duration) {
-    println!("\n### Clips past their last sample\n");
-    println!("| figure | looping ns | held ns |");
-    println!("|---|---:|---:|");
+    println!("\n### Clips past their last sample, and clips without samples\n");
+    println!("| figure | looping ns | held ns | without samples ns |");
+    println!("|---|---:|---:|---:|");
     let sizes = [
         ("1 joint, 1 clip", Size::new(1, 1)),
         ("20 joints, 3 nodes", Size::new(20, 3)),
         ("64 joints, 31 nodes", Size::new(64, 31)),
     ];
     for (name, size) in sizes {
-        let looping = measure_late(size, time);
-        let held = measure_late(
-            Size {
-                stops: true,
-                ..size
-            },
-            time,
-        );
-        println!("| {name} | {looping:.0} | {held:.0} |");
+        let stopping = Size {
+            stops: true,
+            ..size
+        };
+        let pausing = Size { samples: 0, ..size };
+        let [looping, held, paused] =
+            [size, stopping, pausing].map(|size| measure_late(size, time));
+        println!("| {name} | {looping:.0} | {held:.0} | {paused:.0} |");
     }
 }
 

@@ -124,7 +124,8 @@ gentianlathe_answer gentianlathe_set(gentianlathe_player *player, size_t paramet
  * Shows a frame: at most one step of the transitions, at clock + ext, then the matrix of each joint, its clips at
  * clock + ext * speed: 16 floats by rows and the joints one after another, at the front of output. The player moves
  * with it (a transition begins or ends, clip instances are synchronised). Floats of output behind the last joint's
- * stay as they are.
+ * stay as they are. A clip without samples, a pause, shows the identity pose at every joint, and a lerp node with one
+ * leaves its clip instances as they are.
  *
  * Refused with 1 to 7 or 14 for the figure, which is checked anew at each frame; with 9 for the player; with 10
  * for an output shorter than gentianlathe_output_length(). Player and output then stay.

@@ -183,6 +183,7 @@ impl Player {
     }
 
     /// Shows a frame at clock + `ext`: 16 floats a joint, by rows, at the front of `output`; what follows is kept.
+    /// A clip without samples shows the identity pose at every joint.
     /// The player moves with it: a transition begins or ends, clips are synchronised.
     ///
     /// # Errors

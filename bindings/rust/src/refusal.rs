@@ -145,7 +145,7 @@ fn range(word: usize) -> &'static str {
         3 => "the number of states must be 1 to 16",
         4 => "the initial state must be below the number of states",
         _ => {
-            "a clip has 1 to 4096 samples, a state 1 to 31 nodes and 0 to 16 transitions, \
+            "a clip has 0 to 4096 samples, a state 1 to 31 nodes and 0 to 16 transitions, \
              a plan at most 64 clip nodes"
         }
     }

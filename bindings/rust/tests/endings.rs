@@ -142,27 +142,46 @@ fn a_stopped_clip_does_not_begin_anew() {
     assert_eq!(shown(&figure, &mut rewound)[3], 4.0);
 }
 
-/// A plan from before clips had endings is never taken for one of today.
+/// A figure's plan as it was before clips had endings; `None` where a clip has no samples, which was refused then.
+fn without_endings(plan: &[u16]) -> Option<Vec<u16>> {
+    let first = 5 + usize::from(plan[0]);
+    let behind = first + 2 * usize::from(plan[1]);
+    let counts: Vec<u16> = plan[first..behind].iter().copied().step_by(2).collect();
+    let old = [&plan[..first], &counts, &plan[behind..]].concat();
+    (!counts.contains(&0)).then_some(old)
+}
+
+/// A plan of a few clips from before they had endings is not taken for one of today.
 #[test]
 fn plans_without_endings_are_refused() {
     let mut random = Random::new(6);
     let mut numbers_seen = [0; 15];
-    for _ in 0..2_000 {
+    for _ in 0..4_000 {
         let (plan, numbers) = random_figure(&mut random).into_parts();
-        let first = 5 + usize::from(plan[0]);
-        let behind = first + 2 * usize::from(plan[1]);
-        let counts = plan[first..behind].iter().step_by(2);
-        let old: Vec<u16> = plan[..first]
-            .iter()
-            .chain(counts)
-            .chain(&plan[behind..])
-            .copied()
-            .collect();
-        let refusal = Figure::new(old, numbers).expect_err("no endings");
-        numbers_seen[refusal.number()] += 1;
+        if let Some(old) = without_endings(&plan) {
+            let refusal = Figure::new(old, numbers).expect_err("no endings");
+            numbers_seen[refusal.number()] += 1;
+        }
     }
+    assert!(numbers_seen.iter().sum::<usize>() > 1_000);
     assert!(
         numbers_seen[2] > 0 && numbers_seen[14] > 0,
         "{numbers_seen:?}"
     );
+}
+
+/// docs/FORMAT.md warns of such plans: with 16 clips of one sample, both readings have as many words and numbers.
+#[test]
+fn a_plan_that_reads_with_and_without_endings() {
+    let behind_the_old_counts = [
+        1, 0, 1, 0, 0, 1, 0, 0, 1, // state 0: a clip node and one transition, to state 1
+        1, 0, 0, 0, 0, 7, 0, 3, 0, 4, 0, 0, 0, 3, 0, 0, 2, 1, 0, 5, 0, 1, 0, 1, 0, 0, 0,
+    ];
+    let header = [1, 16, 6, 2, 0, 255];
+    let old = [&header[..], &[1; 16], &behind_the_old_counts].concat();
+    let brought_over = [&header[..], &[1, 0].repeat(16), &behind_the_old_counts].concat();
+    let numbers = vec![1.0; 16 + 2 * 8 + 8 * 16];
+    for plan in [brought_over, old] {
+        Figure::new(plan, numbers.clone()).expect("a figure, either way");
+    }
 }

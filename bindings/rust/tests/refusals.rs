@@ -58,7 +58,7 @@ fn two_a_count() {
             &format!("word {word} of the plan is out of range: the "),
         );
     }
-    for (word, value) in [(7, 0), (7, 4097), (9, 0), (9, 32), (22, 17)] {
+    for (word, value) in [(7, 4097), (7, u16::MAX), (9, 0), (9, 32), (22, 17)] {
         expect(
             with_word(word, value),
             2,
@@ -347,9 +347,9 @@ fn fourteen_an_ending() {
         refusal.map_or((0, 0), |refusal| (refusal.number(), refusal.place()))
     };
     assert_eq!(refused([1, 1, 1, 0, 1]), (0, 0), "both endings are taken");
-    assert_eq!(refused([0, 2, 1, 0, 1]), (2, 6));
-    assert_eq!(refused([1, 2, 0, 2, 0]), (14, 7));
-    assert_eq!(refused([1, 1, 0, 2, 0]), (2, 8));
+    assert_eq!(refused([4097, 2, 1, 0, 1]), (2, 6));
+    assert_eq!(refused([1, 2, 4097, 2, 0]), (14, 7));
+    assert_eq!(refused([1, 1, 4097, 2, 0]), (2, 8));
     assert_eq!(refused([1, 1, 1, 2, 0]), (14, 9));
     assert_eq!(refused([1, 1, 1, 1, 0]), (2, 10));
 }

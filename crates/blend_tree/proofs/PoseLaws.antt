@@ -11,7 +11,7 @@ use Rattle.model.specs.declared.Pose.{Pose}
 use Rattle.model.specs.declared.ClipInstance.{ClipInstance}
 use Rattle.model.specs.Plan.{isLerp, clipNode}
 use Rattle.model.specs.Pose.{identityPose}
-use Rattle.model.specs.Clips.{instanceAt, clipPose}
+use Rattle.model.specs.Clips.{localTime, instanceAt, clipPose}
 use Rattle.model.specs.Tree.{parameter, nodePose, nodePoses, statePose}
 use Rattle.model.specs.Laws.Table.{table-at}
 use Rattle.model.specs.Laws.State.{some-nodes}
@@ -20,14 +20,10 @@ use Rattle.layout.specs.declared.StateLayout.{StateLayout}
 use Rattle.layout.specs.declared.Node.{Node}
 use Rattle.layout.specs.Layout.{nodeOf, InPlan}
 use Rattle.layout.proofs.Laws.{here-ok, nodes-counted}
-use Rattle.animation.specs.declared.Position.{Position}
 use Rattle.lanes.specs.Lanes.{blockSize, laneAt, LaneSet}
 use Rattle.lanes.proofs.Laws.{done-more, rest-less}
-use Rattle.blend_tree.specs.declared.sampling.Clip.{Clip}
-use Rattle.blend_tree.specs.Sampling.{clipOf, positionAt, samplesAt, poseBetween}
 use Rattle.blend_tree.specs.Blocks.{Filled, Playable, combined, poseOfNode}
 use Rattle.blend_tree.proofs.NodeLaws.{passes, NodeRead, is-clip, no-clip, inputs-before}
-use Rattle.blend_tree.proofs.SamplingLaws.{between-clip}
 
 -- ---- a loop that puts f of x's lane and y's into x, lane by lane
 
@@ -62,11 +58,10 @@ module _ {plan : List ℕ} {here : StateLayout} {i : ℕ} {words : Node} (r : No
     unfolding nodePoses
     input n h = table-at (nodePose plan numbers parameters time (here .state) instances j) i identityPose n h ∙ sym (by-table n)
 
-    pub of-clip : {layout : Layout} {instance : ClipInstance} {clip : Clip} {p : Position} → Playable plan numbers layout → words .kind ≡ 0
-        → instance ≡ instanceAt instances (clipNode plan (here .state) i) → clip ≡ clipOf plan numbers (words .a) → p ≡ samplesAt clip (positionAt clip instance time)
-        → poseBetween numbers layout p j ≡ poseOf i
-    unfolding clipOf clipPose nodeOf nodePose
-    of-clip ok e ei ec ep = between-clip (words .a) _ ok (rw ec at ep) j ∙ rw (by-table i, is-clip plan (here .state) i (r .found) e, r .found, ei)
+    pub of-clip : {instance : ClipInstance} → words .kind ≡ 0 → instance ≡ instanceAt instances (clipNode plan (here .state) i)
+        → clipPose plan numbers (words .a) j (localTime instance time) ≡ poseOf i
+    unfolding nodeOf nodePose
+    of-clip e ei = rw (by-table i, is-clip plan (here .state) i (r .found) e, r .found, ei)
 
     pub of-inputs : {x y : Pose} → (words .kind ≡ 0 → ⊥) → x ≡ poseOf (words .a) → y ≡ poseOf (words .b)
         → let p = parameter parameters (words .parameter) in combined (eqb (words .kind) 1) x y p ≡ poseOf i

@@ -2,16 +2,20 @@
 use Prim.Native.Nat.{ℕ, _+_, _*_, _≤_, _<_}
 use native.Mathlib.Nat.{suc-mul, mul-le-mul-right, mod-lt}
 use native.Mathlib.Omega.{arith}
-use mathlib.Core.Path.{_≡_}
+use mathlib.Core.Path.{_≡_, sym}
 use mathlib.Core.List.{List}
 use lib.ListN.{length}
 use lib.Ieee.{Float}
-use Rattle.model.specs.Numbers.{floorIndex, ceilingIndex}
+use Rattle.model.specs.declared.ClipInstance.{ClipInstance}
+use Rattle.model.specs.Numbers.{_*₃₂_, floorIndex, ceilingIndex}
 use Rattle.model.specs.Text.{maxWord}
-use Rattle.model.specs.Plan.{maxJoints, maxClips, maxSamples, jointCount, clipCount, stateCount, sampleCount, isStopping, samplesBefore, posesAt, number, numberAt, numbersLength, samplePose}
-use Rattle.model.specs.Clips.{firstIndex, secondIndex, sampledPosition, poseAt}
+use Rattle.model.specs.Plan.{maxJoints, maxClips, maxSamples, jointCount, clipCount, stateCount, sampleCount, samplesBefore, posesAt, number, Rate, numberAt, numbersLength, samplePose}
+use Rattle.model.specs.Pose.{identityPose}
+use Rattle.model.specs.Clips.{firstIndex, secondIndex, localTime, clipPose}
 use Rattle.model.specs.Laws.Totals.{total-below, total-most}
-use Rattle.model.specs.Laws.Passed.{some-samples, few-samples, few-joints, few-clips, few-states, few-transitions-before, numbers-fit}
+use Rattle.model.specs.Laws.Clips.{first-below as first-in-clip, second-below as second-in-clip, pose-of-samples}
+use Rattle.model.specs.Laws.Passed.{few-samples, few-joints, few-clips, few-states, few-transitions-before, numbers-fit}
+use Rattle.model.specs.Pauses.{shows-identity}
 use Rattle.layout.specs.declared.Layout.{Layout}
 use Rattle.layout.specs.Layout.{layoutOf}
 use Rattle.layout.proofs.Laws.{joints-found}
@@ -20,14 +24,14 @@ use Rattle.animation.specs.Sampling.{positionIn, poseFrom}
 use Rattle.blend_tree.specs.declared.sampling.Clip.{Clip}
 use Rattle.blend_tree.specs.declared.Joints.{Joints}
 use Rattle.blend_tree.specs.Blocks.{Playable, InBlock}
-use Rattle.blend_tree.specs.Sampling.{clipOf, Sized, samplesAt, poseStart, poseBetween, Sampled}
+use Rattle.blend_tree.specs.Sampling.{clipOf, Sized, positionAt, samplesAt, poseStart, poseBetween, Sampled}
+
+positive : (n : ℕ) → (n ≡ 0 → ⊥) → 0 < n
+positive n h = omega (arith, h)
 
 -- ---- a clip
 
 module _ {plan : List ℕ} {numbers : List Float} {layout : Layout} (ok : Playable plan numbers layout) {c : ℕ} (inside : c < clipCount plan) where
-  some : 0 < sampleCount plan c
-  some = some-samples plan (length numbers) (ok .passed) c inside
-
   few : sampleCount plan c ≤ maxSamples
   few = few-samples plan (length numbers) (ok .passed) c inside
 
@@ -39,13 +43,14 @@ module _ {plan : List ℕ} {numbers : List Float} {layout : Layout} (ok : Playab
   few-before = omega (arith, clip-small, total-most (sampleCount plan) maxSamples c (λ k l. few-samples plan (length numbers) (ok .passed) k (omega (arith, inside))))
 
   -- what `clip_position` and `clip_samples` ask
-  pub clip-sized : {clip : Clip} → clip ≡ clipOf plan numbers c → Sized clip
+  pub clip-sized : {clip : Clip} → clip ≡ clipOf plan numbers c → (clip .samples ≡ 0 → ⊥) → Sized clip
   unfolding clipOf
-  clip-sized e = rw e (some, few, few-before)
+  clip-sized {clip} e some = (positive (clip .samples) some, rw e few, rw e few-before)
 
-  -- what `joint_pose` and `clip_poses` ask of what it gives
-  pub sampled : {clip : Clip} {p : Position} (x : Float) → clip ≡ clipOf plan numbers c → p ≡ samplesAt clip x → Sampled numbers layout p
-  sampled x e found = record { plan = plan; c = c; position = x; playable = ok; clip = inside; found = rw e at found }
+  -- what `joint_pose` and `sampled_poses` ask of what it gives
+  pub sampled : {clip : Clip} {p : Position} (x : Float) → clip ≡ clipOf plan numbers c → (clip .samples ≡ 0 → ⊥) → p ≡ samplesAt clip x → Sampled numbers layout p
+  unfolding clipOf
+  sampled x e some found = record { plan = plan; c = c; position = x; playable = ok; clip = inside; some = rw e at (clip-sized e some .0); found = rw e at found }
 
 -- a position in n samples
 pub position-below : {n : ℕ} {p : Position} (x : Float) → 0 < n → p ≡ positionIn n x → (p .first < n) × (p .second < n)
@@ -60,12 +65,12 @@ module _ {numbers : List Float} {layout : Layout} {p : Position} (s : Sampled nu
   all = samplesBefore (s .plan) (clipCount (s .plan))
 
   first-below : p .first < all
-  unfolding clipOf samplesAt firstIndex samplesBefore
-  first-below = rw (s .found) (total-below (sampleCount (s .plan)) (clipCount (s .plan)) (s .c) _ (s .clip) (mod-lt _ (some (s .playable) (s .clip))))
+  unfolding clipOf samplesAt samplesBefore
+  first-below = rw (s .found) (total-below (sampleCount (s .plan)) (clipCount (s .plan)) (s .c) _ (s .clip) (first-in-clip (s .plan) (s .c) (s .position) (s .some)))
 
   second-below : p .second < all
-  unfolding clipOf samplesAt secondIndex samplesBefore
-  second-below = rw (s .found) (total-below (sampleCount (s .plan)) (clipCount (s .plan)) (s .c) _ (s .clip) (mod-lt _ (some (s .playable) (s .clip))))
+  unfolding clipOf samplesAt samplesBefore
+  second-below = rw (s .found) (total-below (sampleCount (s .plan)) (clipCount (s .plan)) (s .c) _ (s .clip) (second-in-clip (s .plan) (s .c) (s .position) (s .some)))
 
   all-few : all ≤ maxClips * maxSamples
   unfolding samplesBefore
@@ -104,10 +109,18 @@ pub row-inside : {numbers : List Float} {layout : Layout} {p : Position} {joints
 row-inside {p = p} {joints = joints} {i = i} s block el eh h =
     rw (el, eh, row-start _ (p .first) (joints .first) i, row-start _ (p .second) (joints .first) i) (joint-inside s (omega (arith, h, block .inside)))
 
--- ---- a joint's pose between them
+-- ---- what an instance of a clip shows of a joint
 
-pub between-clip : {plan : List ℕ} {numbers : List Float} {layout : Layout} {p : Position} (c : ℕ) (position : Float) → Playable plan numbers layout
-    → p ≡ samplesAt (clipOf plan numbers c) (sampledPosition (isStopping plan c) (sampleCount plan c) position)
-    → (j : ℕ) → poseBetween numbers layout p j ≡ poseAt plan numbers c j position
-unfolding poseBetween poseAt clipOf samplesAt layoutOf poseFrom samplePose number numberAt
-between-clip c position ok found j = rw (ok .found, found)
+module _ (plan : List ℕ) (numbers : List Float) (c : ℕ) {clip : Clip} (e : clip ≡ clipOf plan numbers c) (instance : ClipInstance) (time : Float) (j : ℕ) where
+  -- without samples
+  pub identity-shown : clip .samples ≡ 0 → identityPose ≡ clipPose plan numbers c j (localTime instance time)
+  unfolding clipOf
+  identity-shown none = sym (shows-identity plan numbers c (rw e at none) j _)
+
+  -- with samples, the pose between those on either side
+  pub between-shown : {layout : Layout} {x : Float} {p : Position} → Playable plan numbers layout → (clip .samples ≡ 0 → ⊥)
+      → x ≡ positionAt clip instance time → p ≡ samplesAt clip x → poseBetween numbers layout p j ≡ clipPose plan numbers c j (localTime instance time)
+  unfolding poseBetween clipPose clipOf samplesAt layoutOf poseFrom samplePose number numberAt
+  between-shown ok some ex ep =
+      let has : 0 < sampleCount plan c = rw e at (positive (clip .samples) some) in
+      rw (pose-of-samples plan c numbers j (localTime instance time *₃₂ number plan numbers (Rate c)) has, ep, ex, e, ok .found)

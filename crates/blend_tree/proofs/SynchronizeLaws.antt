@@ -2,27 +2,29 @@
 use Prim.Native.Nat.{ℕ, zero, suc, _+_, _≤_, _<_}
 use native.Mathlib.Omega.{arith}
 use mathlib.Core.Path.{_≡_, refl, sym, _∙_}
-use mathlib.Core.Bool.{Bool, true, false, _&&_}
+use mathlib.Core.Bool.{Bool, true, false, not, _&&_}
 use mathlib.Core.List.{List}
 use lib.Dec.{eqb}
 use lib.ListN.{length, getD, set}
 use lib.Seq.{getD-set-same, getD-set-other}
 use lib.Ieee.{Float}
 use borrow.Author.Count.{below-more}
-use borrow.Author.Tests.{eq-eqb, ne-eqb, eqb-true}
+use borrow.Author.Tests.{eq-eqb, ne-eqb}
 use Rattle.model.specs.Answers.{accepted}
-use Rattle.model.specs.Plan.{maxClipNodes, stateCount, nodeCount, isClip, isLerp, inputA, total, clipNodesBefore, clipNode}
+use Rattle.model.specs.Plan.{maxClipNodes, sampleCount, isEmpty, stateCount, nodeCount, isClip, isLerp, total, clipNodesBefore, clipNode}
 use Rattle.model.specs.Check.{checkState}
-use Rattle.model.specs.Laws.Tests.{and-left, and-right}
+use Rattle.model.specs.Laws.Touched.{plays-some, touched-blends, touched-a, touched-b}
 use Rattle.model.specs.Laws.ClipNodes.{first-clip-node, clip-counts, blend-counts-not}
 use Rattle.model.specs.Laws.State.{few-clip-nodes}
 use Rattle.model.specs.Laws.Passed.{state-passed}
-use Rattle.model.specs.Tree.{parameter, targetLength, isTouched, nodeLength, nodeTarget, synchronizedRate, rateSet, inputSynchronized, synchronizeNode}
+use Rattle.model.specs.Tree.{parameter, targetLength, playsSamples, isTouched, nodeLength, nodeTarget, synchronizedRate, rateSet, inputSynchronized, synchronizeNode}
 use Rattle.layout.specs.declared.StateLayout.{StateLayout}
 use Rattle.layout.specs.declared.Node.{Node}
 use Rattle.layout.specs.Layout.{Passes, InPlan, nodeOf}
 use Rattle.layout.proofs.Laws.{here-ok, nodes-counted}
-use Rattle.blend_tree.proofs.NodeLaws.{no-clip}
+use Rattle.blend_tree.specs.declared.sampling.Clip.{Clip}
+use Rattle.blend_tree.specs.Sampling.{clipOf}
+use Rattle.blend_tree.proofs.NodeLaws.{is-clip, no-clip}
 
 module _ (plan : List ℕ) (s i : ℕ) {n : Node} (e : n ≡ nodeOf plan s i) where
   lerp-told : isLerp plan s i ≡ eqb (n .kind) 1
@@ -36,15 +38,26 @@ module _ (plan : List ℕ) (s i : ℕ) {n : Node} (e : n ≡ nodeOf plan s i) wh
   unfolding isTouched
   other-untouched h = sym (rw (lerp-told ∙ ne-eqb _ _ h))
 
-  pub lerp-touched : n .kind ≡ 1 → isTouched plan s i ≡ isClip plan s (n .a) && isClip plan s (n .b)
+  pub lerp-touched : n .kind ≡ 1 → isTouched plan s i ≡ playsSamples plan s (n .a) && playsSamples plan s (n .b)
   unfolding nodeOf isTouched
   lerp-touched h = rw (lerp-told ∙ eq-eqb _ _ h, e)
 
   pub touched-inputs : isTouched plan s i ≡ true → (isClip plan s i ≡ false) × (isClip plan s (n .a) ≡ true) × (isClip plan s (n .b) ≡ true)
-  unfolding nodeOf isTouched
-  touched-inputs t =
-      let inputs = and-right (isLerp plan s i) _ t in
-      (lerp-no-clip (eqb-true _ _ (sym lerp-told ∙ and-left _ _ t)), rw e (and-left _ _ inputs), rw e (and-right (isClip plan s (inputA plan s i)) _ inputs))
+  unfolding nodeOf
+  touched-inputs t = (touched-blends plan s i t, rw e (touched-a plan s i t), rw e (touched-b plan s i t))
+
+  -- whether its clip has samples, if it is a clip node
+  pub clip-has-samples : playsSamples plan s i ≡ true → (numbers : List Float) {clip : Clip} → clip ≡ clipOf plan numbers (n .a) → clip .samples ≡ 0 → ⊥
+  unfolding nodeOf clipOf
+  clip-has-samples t numbers ec none = plays-some plan s i t (rw (ec, e) at none)
+
+  pub plays-nothing : (n .kind ≡ 0 → ⊥) → playsSamples plan s i ≡ false
+  unfolding playsSamples
+  plays-nothing h = rw (no-clip plan s i e h)
+
+  pub plays-told : n .kind ≡ 0 → {samples : ℕ} → samples ≡ sampleCount plan (n .a) → playsSamples plan s i ≡ not (eqb samples 0)
+  unfolding nodeOf playsSamples isEmpty
+  plays-told h es = rw (is-clip plan s i e h, es, e)
 
   -- the two inputs one after the other
   pub both-synchronized : (numbers parameters : List Float) (time la lb target : Float) (ka kb : ℕ) (x y z : List Float)

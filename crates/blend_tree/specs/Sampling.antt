@@ -38,11 +38,12 @@ poseStart layout sample j = layout .«poses_at» + (sample * layout .joints + j)
 unfoldable pub poseBetween : List Float → Layout → Position → ℕ → Pose
 poseBetween numbers layout p j = lerp (poseFrom numbers (poseStart layout (p .first) j)) (poseFrom numbers (poseStart layout (p .second) j)) (p .factor)
 
--- these are samples of a clip of a plan that passed with these numbers
+-- these are samples of a clip that has some, of a plan that passed with these numbers
 pub record Sampled (numbers : List Float) (layout : Layout) (samples : Position) : Type 0 where
   pub plan : List ℕ
   pub c : ℕ
   pub position : Float
   pub playable : Playable plan numbers layout
   pub clip : c < clipCount plan
+  pub some : 0 < sampleCount plan c
   pub found : samples ≡ samplesAt (clipOf plan numbers c) position

@@ -14,6 +14,7 @@ use lanes::set_lane;
 use layout::Layout;
 use layout::node_at;
 use layout::pose_at;
+use model::ClipInstance;
 use model::Pose;
 use model::limits::MAX_INSTANCES;
 use model::limits::MAX_PARAMETERS;
@@ -23,9 +24,12 @@ use transform::identity;
 use transform::lerp;
 ghost use mathlib.Core.Path.{_≡_};
 ghost use Prim.Native.Nat.{_+_, _<_, _≤_};
+ghost use Rattle.model.specs.Pose.{identityPose};
+ghost use Rattle.model.specs.Plan.{clipCount};
+ghost use Rattle.model.specs.Clips.{localTime, clipPose};
 ghost use Rattle.lanes.specs.Lanes.{blockSize, laneAt};
 ghost use Rattle.blend_tree.specs.Sampling.{poseBetween, Sampled};
-ghost use Rattle.blend_tree.specs.Blocks.{Filled, FilledFor, InBlock, SlottedState};
+ghost use Rattle.blend_tree.specs.Blocks.{Filled, FilledFor, Playable, InBlock, SlottedState};
 ghost use Rattle.blend_tree.specs.Blocks.{combined, nodePoseAt, statePoseAt};
 
 // What a blend node makes of its inputs' poses: a lerp from a to b, or b, weakened towards the identity, on top of a.
@@ -61,9 +65,20 @@ pub fn combine_all(
     }
 }
 
+fn identity_poses(count: usize, block: &mut [f32; BLOCK_FLOATS])
+    requires { ⌜ count ≤ blockSize ⌝ }
+    ensures { λ _. ⌜ Filled (λ i. identityPose) count (now (block .exit)) ⌝ }
+{
+    let mut i = 0;
+    while i < count {
+        set_lane(block, i, identity());
+        i += 1;
+    }
+}
+
 // A clip, between two of its samples, whose places are worked out once: with `joint_pose` in each lane some sizes are
 // slower by a sixth.
-fn clip_poses(
+fn sampled_poses(
     numbers: &[f32],
     layout: Layout,
     samples: Position,
@@ -82,6 +97,36 @@ fn clip_poses(
         set_lane(block, i, pose_between(numbers, low + at, high + at, factor));
         i += 1;
     }
+}
+
+// By an instance of clip c. A clip without samples shows the identity itself, not a lerp of it.
+fn clip_poses(
+    plan: &[u16],
+    numbers: &[f32],
+    state: StateAt,
+    c: usize,
+    instance: ClipInstance,
+    joints: Joints,
+    block: &mut [f32; BLOCK_FLOATS],
+)
+    requires { ⌜
+        Playable (now plan) (now numbers) (state .layout)
+        × (c < clipCount (now plan))
+        × InBlock (state .layout) joints
+        ⌝ }
+    ensures { λ _. ⌜
+        FilledFor joints (now (block .exit))
+        (λ j. clipPose (now (plan .entry)) (now (numbers .entry)) c j (localTime instance (state .time)))
+        ⌝ }
+{
+    let clip = clip_at(plan, numbers, state.layout, c);
+    if clip.samples == 0 {
+        identity_poses(joints.count, block);
+        return;
+    }
+    let position = clip_position(clip, instance, state.time);
+    let samples = clip_samples(clip, position);
+    sampled_poses(numbers, state.layout, samples, joints, block);
 }
 
 // A node's poses come from those of its inputs, which are earlier nodes, down to clips.
@@ -110,10 +155,7 @@ fn node_poses(
     let words = node_at(plan, state.here, node);
     if words.kind == 0 {
         let instance = instance_at(instances, slots[node] as usize);
-        let clip = clip_at(plan, numbers, state.layout, words.a);
-        let position = clip_position(clip, instance, state.time);
-        let samples = clip_samples(clip, position);
-        clip_poses(numbers, state.layout, samples, joints, block);
+        clip_poses(plan, numbers, state, words.a, instance, joints, block);
         return;
     }
     let mut other = [0.0f32; BLOCK_FLOATS];

@@ -5,6 +5,7 @@ use animation::duration;
 use animation::instance_at;
 use animation::set_instance;
 use animation::set_playback_rate;
+use layout::Layout;
 use layout::StateLayout;
 use layout::node_at;
 use layout::rate;
@@ -17,9 +18,9 @@ ghost use Prim.Native.Nat.{suc, _+_, _<_, _≤_};
 ghost use lib.ListN.{getD};
 ghost use Rattle.model.specs.Text.{maxWord};
 ghost use Rattle.model.specs.Plan.{maxNodes, maxClipNodes, isClip, clipNode};
-ghost use Rattle.model.specs.Tree.{targetLength, isTouched, nodeLength, synchronizedRate, rateSet};
+ghost use Rattle.model.specs.Tree.{targetLength, playsSamples, isTouched, nodeLength, synchronizedRate, rateSet};
 ghost use Rattle.model.specs.Tree.{synchronizeNode, synchronize};
-ghost use Rattle.layout.specs.Layout.{Passes, InPlan};
+ghost use Rattle.layout.specs.Layout.{layoutOf, Passes, InPlan};
 ghost use Rattle.blend_tree.specs.Blocks.{Slots, PlayableState, SlottedState};
 
 // Called for the proof alone: of a slice the length is known there, of a reference to an array it is not.
@@ -95,21 +96,31 @@ fn target_length(p: f32, length_a: f32, length_b: f32) -> f32
     (1.0 - p) * length_a + p * length_b
 }
 
+// Whether node i plays a clip that has samples.
+pub fn plays_samples(plan: &[u16], layout: Layout, here: StateLayout, i: usize) -> bool
+    requires { ⌜ Passes (now plan) × (layout ≡ layoutOf (now plan)) × InPlan (now plan) here × (i < here .nodes) ⌝ }
+    ensures { λ r. ⌜ r ≡ playsSamples (now (plan .entry)) (here .state) i ⌝ }
+{
+    let words = node_at(plan, here, i);
+    if words.kind != 0 {
+        return false;
+    }
+    sample_count(plan, layout, words.a) != 0
+}
+
 // Whether synchronising touches node i.
-fn is_touched(plan: &[u16], here: StateLayout, i: usize) -> bool
-    requires { ⌜ Passes (now plan) × InPlan (now plan) here × (i < here .nodes) ⌝ }
+fn is_touched(plan: &[u16], layout: Layout, here: StateLayout, i: usize) -> bool
+    requires { ⌜ Passes (now plan) × (layout ≡ layoutOf (now plan)) × InPlan (now plan) here × (i < here .nodes) ⌝ }
     ensures { λ r. ⌜ r ≡ isTouched (now (plan .entry)) (here .state) i ⌝ }
 {
     let words = node_at(plan, here, i);
     if words.kind != 1 {
         return false;
     }
-    let a = node_at(plan, here, words.a);
-    if a.kind != 0 {
+    if !plays_samples(plan, layout, here, words.a) {
         return false;
     }
-    let b = node_at(plan, here, words.b);
-    b.kind == 0
+    plays_samples(plan, layout, here, words.b)
 }
 
 // The instance in slot i, of a clip of this length, takes the rate for a target length.
@@ -152,7 +163,7 @@ fn synchronize_node(
         (state .time) (state .here .state) i (now (instances .entry))
         ⌝ }
 {
-    if !is_touched(plan, state.here, i) {
+    if !is_touched(plan, state.layout, state.here, i) {
         return;
     }
     let words = node_at(plan, state.here, i);

@@ -25,10 +25,10 @@ checkHeader plan =
 unfoldable pub checkParent : List ℕ → ℕ → Verdict
 checkParent plan j = wordIs plan 3 (parentAt j) (isRoot plan j || ltb (parent plan j) j)
 
--- a clip: refusal 2 for its N, then 14 'for another ending word'
+-- a clip: refusal 2 for its N (Card 2: 'N may be 0'), then 14 'for another ending word'
 unfoldable pub checkClip : List ℕ → ℕ → Verdict
 checkClip plan c =
-    wordIs plan 2 (sampleCountAt plan c) (within 1 (sampleCount plan c) maxSamples) then
+    wordIs plan 2 (sampleCountAt plan c) (within 0 (sampleCount plan c) maxSamples) then
     wordIs plan 14 (endingAt plan c) (within 0 (ending plan c) 1)
 
 -- whether one of the first i nodes has node k for an input

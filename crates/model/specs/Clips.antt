@@ -1,4 +1,4 @@
--- Document 01, "Clips (animation.rs)", with document 02's Card 1: clips that stop. Definitions only.
+-- Document 01, "Clips (animation.rs)", with document 02's Card 1, clips that stop, and Card 2, clips without samples. Definitions only.
 use Prim.Native.Nat.{ℕ, zero, suc, _+_, _-_, _*_, _%_}
 use mathlib.Core.Bool.{Bool, cond, _&&_}
 use mathlib.Core.List.{List, [], _∷_}
@@ -7,8 +7,8 @@ use lib.Ieee.{Float, nan, ne, le}
 use Rattle.model.specs.declared.Pose.{Pose}
 use Rattle.model.specs.declared.ClipInstance.{ClipInstance}
 use Rattle.model.specs.Numbers.{_+₃₂_, _-₃₂_, _*₃₂_, _/₃₂_, 0f, 1f, floorIndex, ceilingIndex, indexFloat}
-use Rattle.model.specs.Pose.{lerp}
-use Rattle.model.specs.Plan.{sampleCount, isStopping, number, Rate, samplePose}
+use Rattle.model.specs.Pose.{identityPose, lerp}
+use Rattle.model.specs.Plan.{sampleCount, isEmpty, isStopping, number, Rate, samplePose}
 
 -- ---- a position
 
@@ -58,12 +58,12 @@ module _ (plan : List ℕ) (numbers : List Float) where
   unfoldable pub duration : ℕ → Float
   duration c = indexFloat (sampleCount plan c) /₃₂ number plan numbers (Rate c)
 
-  -- at a 'position' of clip c, joint j's pose
+  -- at a 'position' of clip c, joint j's pose. Card 2: of a clip without samples 'the identity pose .. whatever its ending'
   unfoldable pub poseAt : ℕ → ℕ → Float → Pose
   poseAt c j position =
       let n = sampleCount plan c in
       let at = sampledPosition (isStopping plan c) n position in
-      lerp (samplePose plan numbers c (firstIndex n at) j) (samplePose plan numbers c (secondIndex n at) j) (factor at)
+      cond (isEmpty plan c) identityPose (lerp (samplePose plan numbers c (firstIndex n at) j) (samplePose plan numbers c (secondIndex n at) j) (factor at))
 
   -- at a 'local time'
   unfoldable pub clipPose : ℕ → ℕ → Float → Pose

@@ -8,6 +8,8 @@ pub mod Header
 pub mod Node
 pub mod State
 pub mod Trees
+pub mod Clips
+pub mod Touched
 pub mod Passed
 pub mod Steps
 pub mod Numbers

@@ -24,5 +24,6 @@ pub mod Bench
 pub mod BenchText
 pub mod Wrap
 pub mod Stopping
+pub mod Pauses
 pub mod ExactlyOne
 pub mod Unused

@@ -98,6 +98,10 @@ sampleCountAt plan c = parentAt (jointCount plan) + clipWords * c
 unfoldable pub sampleCount : List ℕ → ℕ → ℕ
 sampleCount plan c = word plan (sampleCountAt plan c)
 
+-- Card 2, 'a clip without samples'
+unfoldable pub isEmpty : List ℕ → ℕ → Bool
+isEmpty plan c = eqb (sampleCount plan c) 0
+
 -- Card 1, 'ending word': it follows its N
 unfoldable pub endingAt : List ℕ → ℕ → ℕ
 endingAt plan c = sampleCountAt plan c + 1

@@ -15,7 +15,8 @@ use Rattle.model.specs.Plan.{maxSamples, clipCount, sampleCount, isStopp
 use Rattle.model.specs.Check.{check}
 use Rattle.model.specs.Clips.{firstIndex, secondIndex, factor, sampledPosition, poseAt}
 use Rattle.model.specs.Laws.Opened.{check-opened, floats-opened}
-use Rattle.model.specs.Laws.Passed.{some-samples, few-samples}
+use Rattle.model.specs.Laws.Passed.{few-samples}
+use Rattle.model.specs.Laws.Clips.{pose-of-samples}
 use Rattle.model.specs.Laws.Wholes.{floor-of, ceiling-of, index-value, whole-less-itself}
 
 -- 'both indices N − 1, factor 0': at position N − 1, which is a float for every N that passes
@@ -34,17 +35,17 @@ at-last n some few =
     let below : (n - 1) % n ≡ n - 1 = mod-eq-of-lt {n = n - 1} {m = n} (omega arith) in
     record { first = rw (floor, below); second = rw (ceiling, below); no-factor = rw floor (whole-less-itself (n - 1) (omega arith)) }
 
--- the whole of it, in a figure that passes: a stopping clip 'at position N − 1 or above' shows its last sample, 'lerp as ever'
+-- the whole of it, in a figure that passes: a stopping clip that has samples 'at position N − 1 or above' shows its last one, 'lerp as ever'
 module _ (plan : List ℕ) (numbers : List Float) (passed : check plan (length numbers) ≡ accepted) (c : ℕ) (inside : c < clipCount plan) where
   abbrev n : ℕ
   n = sampleCount plan c
 
-  pub held : isStopping plan c ≡ true → (position : Float) → le (indexFloat (n - 1)) position ≡ true → (j : ℕ)
+  pub held : 0 < n → isStopping plan c ≡ true → (position : Float) → le (indexFloat (n - 1)) position ≡ true → (j : ℕ)
       → let last = samplePose plan numbers c (n - 1) j in poseAt plan numbers c j position ≡ lerp last last 0f
-  unfolding poseAt sampledPosition
-  held stops position above j =
-      let l = at-last n (some-samples plan (length numbers) passed c inside) (few-samples plan (length numbers) passed c inside) in
-      rw (stops, above, l .first, l .second, l .no-factor)
+  unfolding sampledPosition
+  held some stops position above j =
+      let l = at-last n some (few-samples plan (length numbers) passed c inside) in
+      rw (pose-of-samples plan c numbers j position some, stops, above, l .first, l .second, l .no-factor)
 
 -- 'below that .. as before'
 pub below-as-before : (n : ℕ) (position : Float) → le (indexFloat (n - 1)) position ≡ false → sampledPosition true n position ≡ position
@@ -118,15 +119,15 @@ stopping-cases =
 -- ---- 'judged after its N', at its own place
 
 -- one root, two clips with these words, one state of one node that plays clip 0
-abbrev twoClips : ℕ → ℕ → ℕ → ℕ → List ℕ
+abbrev pub twoClips : ℕ → ℕ → ℕ → ℕ → List ℕ
 twoClips n ending m later = 1 ∷ 2 ∷ 0 ∷ 1 ∷ 0 ∷ 255 ∷ n ∷ ending ∷ m ∷ later ∷ 1 ∷ 0 ∷ 0 ∷ 0 ∷ 0 ∷ 0 ∷ []
 
 pub record EndingJudged : Type 0 where
   pub loop-and-stop : check (twoClips 1 0 1 1) 18 ≡ accepted
   pub neither : check (twoClips 1 2 1 0) 18 ≡ refused 14 7 0
-  -- N 0 and an ending 2: N decides; an ending 2 and the next N 0: the ending does
-  pub after-its-count : check (twoClips 0 2 1 0) 18 ≡ refused 2 6 0
-  pub before-the-next-count : check (twoClips 1 2 0 0) 18 ≡ refused 14 7 0
+  -- N 4,097 and an ending 2: N decides; an ending 2 and the next N 4,097: the ending does
+  pub after-its-count : check (twoClips 4097 2 1 0) 18 ≡ refused 2 6 0
+  pub before-the-next-count : check (twoClips 1 2 4097 0) 18 ≡ refused 14 7 0
   -- a missing one is 1
   pub missing : check (1 ∷ 2 ∷ 0 ∷ 1 ∷ 0 ∷ 255 ∷ 1 ∷ []) 18 ≡ refused 1 7 0
 

@@ -1,6 +1,6 @@
--- Document 01, "Tree (blend_tree.rs)". Definitions only.
+-- Document 01, "Tree (blend_tree.rs)", with document 02's Card 2: inputs without samples. Definitions only.
 use Prim.Native.Nat.{ℕ, zero, suc, _-_}
-use mathlib.Core.Bool.{Bool, cond, _&&_}
+use mathlib.Core.Bool.{Bool, cond, not, _&&_}
 use mathlib.Core.List.{List}
 use lib.ListN.{getD}
 use lib.Ieee.{Float, nan}
@@ -8,7 +8,7 @@ use Rattle.model.specs.declared.Pose.{Pose}
 use Rattle.model.specs.Numbers.{_+₃₂_, _-₃₂_, _*₃₂_, _/₃₂_, 1f}
 use Rattle.model.specs.Pose.{identityPose, lerp, concat}
 use Rattle.model.specs.Table.{tableTo}
-use Rattle.model.specs.Plan.{nodeCount, isClip, isLerp, inputA, inputB, nodeParameter, clipNode}
+use Rattle.model.specs.Plan.{isEmpty, nodeCount, isClip, isLerp, inputA, inputB, nodeParameter, clipNode}
 use Rattle.model.specs.Clips.{localTime, setPlaybackRate, instanceAt, setInstance, duration, clipPose}
 
 abbrev pub parameter : List Float → ℕ → Float
@@ -30,9 +30,13 @@ synchronizedRate own target = own /₃₂ target
 abbrev pub rateSet : Float → ℕ → Float → List Float → List Float
 rateSet time n rate instances = setInstance instances n (setPlaybackRate (instanceAt instances n) time rate)
 
--- which nodes 'synchronising' touches
+-- node i is a clip node, and its clip has samples
+unfoldable pub playsSamples : List ℕ → ℕ → ℕ → Bool
+playsSamples plan s i = isClip plan s i && not (isEmpty plan (inputA plan s i))
+
+-- which nodes 'synchronising' touches. Card 2: not one 'with an empty clip for an input'
 unfoldable pub isTouched : List ℕ → ℕ → ℕ → Bool
-isTouched plan s i = isLerp plan s i && (isClip plan s (inputA plan s i) && isClip plan s (inputB plan s i))
+isTouched plan s i = isLerp plan s i && (playsSamples plan s (inputA plan s i) && playsSamples plan s (inputB plan s i))
 
 -- the length of the clip that clip node i of state s names
 unfoldable pub nodeLength : List ℕ → List Float → ℕ → ℕ → Float

@@ -13,7 +13,7 @@ use Rattle.model.specs.declared.Transition.the-variants.{Idle}
 use Rattle.model.specs.Rotations.{identityMatrix, floats, product}
 use Rattle.model.specs.Pose.{toMatrix}
 use Rattle.model.specs.Plan.{maxClipNodes, jointCount, nodeCount, isClip}
-use Rattle.model.specs.Clips.{instanceAt}
+use Rattle.model.specs.Clips.{localTime, instanceAt, clipPose}
 use Rattle.model.specs.Tree.{isTouched, synchronizeNode, synchronizeNodes, synchronize, statePose}
 use Rattle.model.specs.Skeleton.{written}
 use Rattle.model.specs.Laws.State.{a-earlier, few-clip-nodes}
@@ -23,9 +23,6 @@ use Rattle.layout.specs.declared.StateLayout.{StateLayout}
 use Rattle.layout.specs.declared.Node.{Node}
 use Rattle.layout.specs.Layout.{InPlan, nodeOf}
 use Rattle.layout.proofs.Laws.{here-ok, nodes-counted, clips-counted}
-use Rattle.animation.specs.declared.Position.{Position}
-use Rattle.blend_tree.specs.declared.sampling.Clip.{Clip}
-use Rattle.blend_tree.specs.Sampling.{clipOf, positionAt, samplesAt, poseBetween}
 use Rattle.blend_tree.specs.Blocks.{Playable}
 use Rattle.blend_tree.proofs.NodeLaws.{passes, clip-told, NodeRead}
 use Rattle.blend_tree.proofs.SynchronizeLaws.{other-untouched}
@@ -68,12 +65,12 @@ module _ {plan : List ℕ} {numbers : List Float} {layout : Layout} {here : Stat
       shown-idle plan numbers time instant (here .state) parameters instances old t instances new idle (record { instances = alone parameters time instances; output = s .output parameters })
 
   -- the state's pose is its clip's
-  pub only-pose : {words : Node} {instance : ClipInstance} {clip : Clip} {p : Position} → words ≡ nodeOf plan (here .state) 0 → (time : Float) (instances : List Float)
-      → instance ≡ instanceAt instances (here .«clip_node») → clip ≡ clipOf plan numbers (words .a) → p ≡ samplesAt clip (positionAt clip instance time)
-      → (parameters : List Float) (j : ℕ) → poseBetween numbers layout p j ≡ statePose plan numbers parameters time (here .state) instances j
-  only-pose {words} e time instances ei ec ep parameters j =
+  pub only-pose : {words : Node} {instance : ClipInstance} → words ≡ nodeOf plan (here .state) 0 → (time : Float) (instances : List Float)
+      → instance ≡ instanceAt instances (here .«clip_node»)
+      → (parameters : List Float) (j : ℕ) → clipPose plan numbers (words .a) j (localTime instance time) ≡ statePose plan numbers parameters time (here .state) instances j
+  only-pose {words} e time instances ei parameters j =
       let r : NodeRead plan here 0 words = record { passes = passes ok; state = inside; below = omega (arith, one); found = e } in
-      of-clip r numbers parameters time instances j ok (kind-of-clip e) (rw (clips-counted inside, first-clip-node plan (here .state)) at ei) ec ep
+      of-clip r numbers parameters time instances j (kind-of-clip e) (rw (clips-counted inside, first-clip-node plan (here .state)) at ei)
       ∙ rw one at (root-pose inside ok parameters time instances j)
 
 -- a skeleton of one joint

@@ -26,6 +26,7 @@ ghost use mathlib.Core.Path.{_≡_};
 ghost use mathlib.Core.Bool.{true};
 ghost use Prim.Native.Nat.{_+_, _<_, _≤_};
 ghost use Rattle.model.specs.Plan.{stateCount};
+ghost use Rattle.model.specs.Tree.{playsSamples};
 ghost use Rattle.model.specs.Controller.{isTargetBelow, transitionFactor};
 ghost use Rattle.lanes.specs.Lanes.{blockSize};
 ghost use Rattle.blend_tree.specs.Blocks.{FilledFor, Playable, InBlock, PlayableState, SlottedState};
@@ -151,7 +152,7 @@ fn show_blocks(
     }
 }
 
-// A figure of one joint in a state of one clip, which needs no block, and is not synchronised.
+// A figure of one joint in a state of one clip that has samples. It needs no block, and is not synchronised.
 pub fn show_joint(
     plan: &[u16],
     numbers: &[f32],
@@ -163,6 +164,7 @@ pub fn show_joint(
         PlayableState (now plan) (now numbers) state
         × (state .layout .joints ≡ 1)
         × (state .here .nodes ≡ 1)
+        × (playsSamples (now plan) (state .here .state) 0 ≡ true)
         × HasRoom (now plan) (now output)
         ⌝ }
     ensures { λ _. ⌜

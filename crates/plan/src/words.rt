@@ -121,7 +121,7 @@ fn check_clip(plan: &[u16], joints: usize, c: usize) -> Answer
 {
     let at = sample_count_at(joints, c);
     let ending_at = at + 1;
-    let count = word_within(plan, 2, at, 1, MAX_SAMPLES);
+    let count = word_within(plan, 2, at, 0, MAX_SAMPLES);
     let Answer::Accepted = count else {
         return count;
     };

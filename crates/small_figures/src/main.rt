@@ -14,6 +14,7 @@ fn main() {
     signs::there_and_back();
     signs::page();
     signs::held();
+    signs::paused();
     signs::nothing_but_nan();
     unseen::sevens();
     unseen::nan();

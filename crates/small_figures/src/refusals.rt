@@ -88,10 +88,10 @@ pub fn of_start() {
         &no_ending,
         &numbers,
     );
-    let no_samples: [u16; 14] = [1, 1, 0, 1, 0, NO_PARENT, 0, 2, 1, 0, 0, 0, 0, 0];
+    let many_samples: [u16; 14] = [1, 1, 0, 1, 0, NO_PARENT, 4097, 2, 1, 0, 0, 0, 0, 0];
     try_start(
-        b"# start-14-after-2: a clip without samples and with such an ending\n",
-        &no_samples,
+        b"# start-14-after-2: a clip with a sample too many and with such an ending\n",
+        &many_samples,
         &numbers,
     );
     try_start(b"# start-6: a word too many\n", &plan, &numbers);

@@ -187,6 +187,59 @@ pub fn held() {
     past_the_last(1);
 }
 
+// Half way between a pause and two samples at one a second, x being 2 and 6, at position 0.5. The pause's rate is 0.
+fn half_paused(ending: u16) {
+    let plan: [u16; 24] = [
+        1,
+        2,
+        1,
+        1,
+        0,
+        NO_PARENT,
+        0,
+        ending,
+        2,
+        0,
+        3,
+        0,
+        0,
+        0,
+        0,
+        0,
+        1,
+        0,
+        0,
+        1,
+        0,
+        1,
+        0,
+        0,
+    ];
+    let mut numbers = [0.0f32; 18];
+    numbers[1] = 1.0;
+    numbers[2] = 2.0;
+    numbers[6] = 1.0;
+    numbers[10] = 6.0;
+    numbers[14] = 1.0;
+    let mut output = [0.0f32; MATRIX_FLOATS];
+    let begun = start(&plan, &numbers);
+    let fresh = begun.player;
+    let told = set(fresh, 0, 0.5);
+    let told_player = told.player;
+    let shown = frame(&plan, &numbers, update(told_player, 0.5), 0.0, &mut output);
+    let answer = shown.answer;
+    show::answer(b"frame\n", answer);
+    show::joints(1, &output);
+}
+
+pub fn paused() {
+    show::text(
+        b"# paused: a lerp with a clip without samples, which is the identity with either ending; it leaves the other clip's rate alone\n",
+    );
+    half_paused(0);
+    half_paused(1);
+}
+
 // A lerp of two clips, with every number, time and parameter NaN. Its transition is never begun, since no comparison holds of NaN but !=.
 pub fn nothing_but_nan() {
     let plan: [u16; 27] = [

@@ -1,31 +1,26 @@
 //! Faults about the endings of clips.
 
-use crate::endings::{clip_words, with_endings};
-use crate::evaluator::{Answer, HostPlayer, Shown};
+use crate::endings::{clip_words, with_counts, with_endings};
+use crate::evaluator::{Answer, HostPlayer};
 use crate::faults::{Fault, Faulty};
+use crate::frame::Frame;
 use compare::model::clip::{local_time, place, Place};
 use compare::model::figure::Checked;
 use compare::model::pose::Pose;
-use compare::model::skeleton::{matrices, page_matrix};
-use compare::texts::figure::Figure;
 use compare::texts::plan::{Clip, Node};
-
-/// A frame's arguments.
-#[derive(Clone, Copy)]
-pub struct Frame<'a> {
-    pub shown: Shown,
-    pub plan: &'a [u16],
-    pub numbers: &'a [f32],
-    pub ext: f64,
-}
 
 impl Faulty<'_> {
     /// The plan that the library gets to see.
     pub fn plan_handed_on(&self, plan: &[u16]) -> Vec<u16> {
         match self.fault {
-            Fault::StopLoops => with_endings(plan, |ending| if ending == 1 { 0 } else { ending }),
-            Fault::LoopStops => with_endings(plan, |ending| if ending == 0 { 1 } else { ending }),
-            Fault::EndingAccepted => with_endings(plan, |ending| ending.min(1)),
+            Fault::StopLoops => with_endings(plan, |_, old| if old == 1 { 0 } else { old }),
+            Fault::LoopStops => with_endings(plan, |_, old| if old == 0 { 1 } else { old }),
+            Fault::EndingAccepted => with_endings(plan, |_, old| old.min(1)),
+            Fault::PauseEndingAccepted => {
+                with_endings(plan, |count, old| if count == 0 { old.min(1) } else { old })
+            }
+            // A count above the limit is refused as 0 was.
+            Fault::PauseRefused => with_counts(plan, |count| if count == 0 { 4097 } else { count }),
             _ => plan.to_vec(),
         }
     }
@@ -45,7 +40,7 @@ impl Faulty<'_> {
             }
             (Fault::EndingsAfterCounts, 14) => {
                 let mut later = (answer.place + 1..words.end).step_by(2);
-                if let Some(place) = later.find(|&place| !(1..=4096).contains(&plan[place])) {
+                if let Some(place) = later.find(|&place| plan[place] > 4096) {
                     (answer.number, answer.place) = (2, place);
                 }
             }
@@ -53,32 +48,13 @@ impl Faulty<'_> {
         }
     }
 
-    /// What the fault does to the output of an accepted frame, where nothing but a stopping clip
-    /// shows in it.
-    pub fn spoil_held(&self, frame: Frame, player: &HostPlayer, output: &mut [f32]) {
-        let Some(poses) = self.held_poses(frame, player) else {
-            return;
-        };
-        let parents: Vec<u16> = frame.plan[5..5 + poses.len()].to_vec();
-        let mut shown = matrices(&parents, &poses);
-        if frame.shown == Shown::Page {
-            shown
-                .iter_mut()
-                .for_each(|matrix| *matrix = page_matrix(matrix));
-        }
-        let entries = shown.into_iter().flatten().flatten();
-        for (float, entry) in output.iter_mut().zip(entries) {
-            *float = entry;
-        }
-    }
-
     /// The joints' poses, where the fault makes the only clip of the state that is shown others.
-    fn held_poses(&self, frame: Frame, player: &HostPlayer) -> Option<Vec<Pose>> {
-        let figure = Checked::new(&Figure {
-            plan: frame.plan.to_vec(),
-            numbers: frame.numbers.iter().map(|float| float.to_bits()).collect(),
-        });
-        let figure = figure.ok()?;
+    pub fn held_poses(
+        &self,
+        frame: Frame,
+        figure: &Checked,
+        player: &HostPlayer,
+    ) -> Option<Vec<Pose>> {
         let [Node::Clip(clip)] = figure.state(player.state).nodes[..] else {
             return None;
         };
@@ -86,7 +62,7 @@ impl Faulty<'_> {
         if player.running != 0 || !figure.clip(clip).stops {
             return None;
         }
-        let time = (player.clock + frame.ext * player.speed) as f32;
+        let time = frame.tree(figure, player, player.state).time;
         let instance = player.instances[figure.instance(player.state, 0)];
         let position = local_time(instance, time) * figure.rate(clip);
         let Place {
@@ -110,7 +86,7 @@ impl Faulty<'_> {
             samples: clip.samples,
             stops: false,
         };
-        let last = usize::from(clip.samples) - 1;
+        let last = usize::from(clip.samples).checked_sub(1)?;
         let held = Place {
             first: last,
             second: last,
@@ -119,14 +95,14 @@ impl Faulty<'_> {
         let is_held = position >= last as f32;
         match self.fault {
             Fault::StopsAtCount if is_held && position < f32::from(clip.samples) => {
-                Some(place(&looping, position))
+                place(&looping, position)
             }
             Fault::HeldFactorKept if is_held => Some(Place {
                 factor: position - position.floor(),
                 ..held
             }),
             Fault::HeldWithoutLerp if is_held => Some(held),
-            Fault::InfinityLoops if position == f32::INFINITY => Some(place(&looping, position)),
+            Fault::InfinityLoops if position == f32::INFINITY => place(&looping, position),
             Fault::NanHeld if position.is_nan() => Some(held),
             _ => None,
         }

@@ -15,11 +15,20 @@ pub fn clip_words(plan: &[u16]) -> Range<usize> {
     start.min(plan.len())..end.min(plan.len())
 }
 
-/// The plan with other endings.
-pub fn with_endings(plan: &[u16], ending: impl Fn(u16) -> u16) -> Vec<u16> {
+/// The plan with other endings, each from its clip's sample count and the old one.
+pub fn with_endings(plan: &[u16], ending: impl Fn(u16, u16) -> u16) -> Vec<u16> {
     let mut other = plan.to_vec();
     for place in clip_words(plan).skip(1).step_by(2) {
-        other[place] = ending(plan[place]);
+        other[place] = ending(plan[place - 1], plan[place]);
+    }
+    other
+}
+
+/// The plan with other sample counts.
+pub fn with_counts(plan: &[u16], count: impl Fn(u16) -> u16) -> Vec<u16> {
+    let mut other = plan.to_vec();
+    for place in clip_words(plan).step_by(2) {
+        other[place] = count(plan[place]);
     }
     other
 }
@@ -31,10 +40,10 @@ impl Looping {
     /// For a figure that is accepted, where a clip stops.
     pub fn new(figure: &Figure) -> Looping {
         let looping = || Figure {
-            plan: with_endings(&figure.plan, |_| 0),
+            plan: with_endings(&figure.plan, |_, _| 0),
             numbers: figure.numbers.clone(),
         };
-        let stops = Model::start(figure).has_stopping_clip();
+        let stops = Model::start(figure).clips().iter().any(|clip| clip.stops);
         Looping(stops.then(|| Model::start(&looping())))
     }
 
@@ -67,15 +76,17 @@ mod tests {
     fn endings_stand_behind_their_counts() {
         let plan = read(BLEND.as_bytes()).unwrap().plan;
         assert_eq!(plan[clip_words(&plan)], [1, 0, 1, 0]);
-        let other = with_endings(&plan, |ending| ending + 7);
+        let other = with_endings(&plan, |count, ending| ending + 6 + count);
         assert_eq!(other[clip_words(&other)], [1, 7, 1, 7]);
+        let counted = with_counts(&other, |count| count + 2);
+        assert_eq!(counted[clip_words(&counted)], [3, 7, 3, 7]);
         let text = BLEND
             .replace(",0\nclip", ",7\nclip")
             .replace(",0\nstate,3", ",7\nstate,3");
         assert_eq!(read(text.as_bytes()).unwrap().plan, other);
         for length in 0..plan.len() {
-            let cut = with_endings(&plan[..length], |_| 0);
-            assert_eq!(cut, plan[..length]);
+            let cut = with_endings(&plan[..length], |_, _| 0);
+            assert_eq!(with_counts(&cut, |_| 1), plan[..length]);
         }
     }
 }

@@ -1,8 +1,8 @@
 //! The library with a fault put in on the way.
 
-use crate::ending_faults::Frame;
 use crate::endings::with_endings;
 use crate::evaluator::{Answer, Evaluator, HostPlayer, Shown, TextAnswer};
+use crate::frame::{checked, Frame};
 
 #[derive(Clone, Copy, Debug, PartialEq, Eq)]
 pub enum Fault {
@@ -47,10 +47,22 @@ pub enum Fault {
     EndingBeforeCount,
     EndingsAfterCounts,
     TextEndingLost,
+    PauseRefused,
+    PauseEndingAccepted,
+    PauseWithoutRate,
+    PauseLerped,
+    PauseSkipped,
+    EmptyStopShowsNext,
+    EmptyLoopShowsLast,
+    EmptyFirstSynchronised,
+    EmptySecondSynchronised,
+    EmptyBothSynchronised,
+    OtherSynchronised,
+    TextPauseRefused,
 }
 
 impl Fault {
-    pub const ALL: [Fault; 40] = [
+    pub const ALL: [Fault; 52] = [
         Fault::ClockWithoutSpeed,
         Fault::SpeedLost,
         Fault::NeighbourSet,
@@ -91,6 +103,18 @@ impl Fault {
         Fault::EndingBeforeCount,
         Fault::EndingsAfterCounts,
         Fault::TextEndingLost,
+        Fault::PauseRefused,
+        Fault::PauseEndingAccepted,
+        Fault::PauseWithoutRate,
+        Fault::PauseLerped,
+        Fault::PauseSkipped,
+        Fault::EmptyStopShowsNext,
+        Fault::EmptyLoopShowsLast,
+        Fault::EmptyFirstSynchronised,
+        Fault::EmptySecondSynchronised,
+        Fault::EmptyBothSynchronised,
+        Fault::OtherSynchronised,
+        Fault::TextPauseRefused,
     ];
 }
 
@@ -120,6 +144,18 @@ impl Faulty<'_> {
             Fault::InstancesKept => player.instances = before.instances,
             _ => {}
         }
+    }
+
+    /// What the fault does to an accepted frame's poses and playback rates.
+    fn spoil_poses(&self, frame: Frame, player: &mut HostPlayer, output: &mut [f32]) {
+        let Some(figure) = checked(frame.plan, frame.numbers) else {
+            return;
+        };
+        let held = self.held_poses(frame, &figure, player);
+        if let Some(poses) = held.or_else(|| self.paused_poses(frame, &figure, player)) {
+            frame.write(&figure, &poses, output);
+        }
+        self.spoil_shown_rates(frame, &figure, player);
     }
 
     /// What the fault does to a frame's answer.
@@ -161,6 +197,10 @@ impl Evaluator for Faulty<'_> {
         let handed_on = self.plan_handed_on(plan);
         let mut answer = self.library.start(&handed_on, numbers, player);
         self.spoil_refusal(plan, &mut answer);
+        self.spoil_acceptance(plan, &mut answer);
+        if let Some(figure) = checked(plan, numbers) {
+            self.spoil_fresh_rates(&figure, player);
+        }
         if !answer.is_accepted() && self.has(Fault::StartPlace) {
             answer.place += usize::from(answer.number == 4);
         }
@@ -229,7 +269,7 @@ impl Evaluator for Faulty<'_> {
                 numbers,
                 ext,
             };
-            self.spoil_held(frame, player, output);
+            self.spoil_poses(frame, player, output);
             self.spoil_player(&before, player);
             self.spoil_output(usize::from(plan[0]), &old, output);
         }
@@ -248,8 +288,11 @@ impl Evaluator for Faulty<'_> {
             Fault::TextPlace if answer.number == 11 => answer.place += 1,
             Fault::TextRefusedWrites if answer.number == 12 => plan.fill(0),
             Fault::TextCount if answer.number == 0 => answer.numbers = numbers.len(),
+            Fault::TextPauseRefused if answer.number == 0 => {
+                self.spoil_reading(&plan[..answer.words], &mut answer);
+            }
             Fault::TextEndingLost if answer.number == 0 => {
-                plan.copy_from_slice(&with_endings(plan, |_| 0));
+                plan.copy_from_slice(&with_endings(plan, |_, _| 0));
             }
             _ => {}
         }

@@ -84,8 +84,13 @@ fn damage_clips(generator: &mut Generator, plan: &mut [u16]) {
         return;
     }
     for _ in 0..=generator.below(3) {
-        let word = generator.pick(&[0, 1, 2, 2, 3, 255, 4096, 4097, 65535]);
-        plan[generator.pick(&places)] = word;
+        let place = generator.pick(&places);
+        let is_count = (place - places[0]).is_multiple_of(2);
+        plan[place] = if is_count {
+            generator.pick(&[0, 1, 4096, 4097, 4097, 65535])
+        } else {
+            generator.pick(&[0, 1, 2, 2, 3, 255, 4097, 65535])
+        };
     }
 }
 

@@ -166,17 +166,20 @@ fn refusals(counts: &Counts) -> String {
 fn sentence(counts: &Counts) -> String {
     let Counts {
         figures,
+        rusts,
         calls,
         frames,
         clean,
         held,
+        paused,
         begun,
         ended,
         stores,
         ..
     } = counts;
     format!(
-        "{frames} accepted frames ({clean} without NaN, {held} that show a held clip) in {calls} calls to {figures} figures, \
+        "{frames} accepted frames ({clean} without NaN, {held} that show a held clip, {paused} an empty one) \
+         in {calls} calls to {figures} figures, {rusts} of them played by the Rust too, \
          {begun} transitions begun, {ended} ended, {stores} players changed by the host; refused: {}",
         refusals(counts)
     )

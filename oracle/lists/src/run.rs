@@ -3,6 +3,7 @@
 use crate::endings::Looping;
 use crate::evaluator::{Answer, Evaluator, HostPlayer, Shown};
 use crate::output::Output;
+use crate::pauses::Pauses;
 use crate::step::{Edit, Step};
 use compare::lists::call::Call;
 use compare::lists::report::player_line;
@@ -30,6 +31,8 @@ pub struct Mismatch {
 #[derive(Clone, Debug, Default)]
 pub struct Counts {
     pub figures: usize,
+    /// Those that the Rust plays too.
+    pub rusts: usize,
     pub calls: usize,
     /// Accepted frames and page frames.
     pub frames: usize,
@@ -37,6 +40,8 @@ pub struct Counts {
     pub clean: usize,
     /// Those in which a held clip shows: they would be others if all clips looped.
     pub held: usize,
+    /// Those in which a state is shown that plays an empty clip.
+    pub paused: usize,
     pub begun: usize,
     pub ended: usize,
     pub stores: usize,
@@ -71,6 +76,7 @@ struct Run<'a> {
     player: HostPlayer,
     reference: Reference,
     looping: Looping,
+    pauses: Pauses,
     counts: &'a mut Counts,
 }
 
@@ -92,6 +98,7 @@ impl<'a> Run<'a> {
         let answer = evaluator.start(&figure.plan, &numbers, &mut player);
         let reference = Reference::start(figure);
         let expected = Answer::of(reference.answer());
+        counts.rusts += usize::from(expected.is_accepted() && reference.is_rust());
         let mut run = Run {
             evaluator,
             figure,
@@ -99,6 +106,7 @@ impl<'a> Run<'a> {
             player,
             reference,
             looping: Looping::new(figure),
+            pauses: Pauses::new(figure),
             counts,
         };
         let done = run.same_answer(answer, expected);
@@ -168,6 +176,8 @@ impl<'a> Run<'a> {
         if let Ok(matrices) = &expected {
             let is_held = self.looping.differs(&before, (shown, ext), matrices);
             self.counts.held += usize::from(is_held);
+            let is_paused = self.pauses.are_shown(&self.reference.player());
+            self.counts.paused += usize::from(is_paused);
         }
         self.same_frame(answer, expected, &output)
     }

@@ -10,7 +10,7 @@ const SEED: u64 = 1;
 
 const AMOUNTS: Amounts = Amounts {
     frames: 3000,
-    plans: 600,
+    plans: 1200,
     texts: 200,
 };
 

@@ -147,9 +147,11 @@ fn subtree(nodes: &[[u16; 4]], root: usize) -> Vec<[u16; 4]> {
     (0..=root).filter(|&i| used[i]).map(renumbered).collect()
 }
 
-/// With a looping clip for a stopping one, poses as the identity, or with a number as a plainer one.
+/// With a looping clip for a stopping one or a sample in an empty one, poses as the identity, or with a
+/// number as a plainer one.
 pub fn plainer_drafts(draft: &Draft) -> Vec<Draft> {
     let mut drafts = looping_drafts(draft);
+    drafts.extend(sampled_drafts(draft));
     let mut plain = draft.clone();
     plain.poses.fill(IDENTITY);
     if plain.poses != draft.poses {
@@ -182,6 +184,19 @@ fn looping_drafts(draft: &Draft) -> Vec<Draft> {
         plainer
     };
     stopping.map(looping).collect()
+}
+
+/// A clip with samples is plainer, so `smaller_drafts` leaves each clip one.
+fn sampled_drafts(draft: &Draft) -> Vec<Draft> {
+    let empty = (0..draft.clips.len()).filter(|&clip| draft.clips[clip].samples == 0);
+    let sampled = |clip: usize| {
+        let mut plainer = draft.clone();
+        let poses = vec![IDENTITY; draft.parents.len()];
+        plainer.poses.splice(poses_of(draft, clip), poses);
+        plainer.clips[clip].samples = 1;
+        plainer
+    };
+    empty.map(sampled).collect()
 }
 
 /// All numbers, those of poses only where these are few. The identity is plain already.
@@ -227,6 +242,24 @@ mod tests {
             let plainer = looping_drafts(&draft);
             assert_eq!(plainer.len(), stops(&draft));
             assert!(plainer.iter().all(|one| stops(one) + 1 == stops(&draft)));
+        }
+    }
+
+    #[test]
+    fn a_plainer_figure_has_one_empty_clip_less() {
+        let mut generator = Generator::new(7);
+        let drafts = (0..200).map(|_| accepted(&mut generator));
+        for draft in drafts.filter(|draft| check(&draft.figure()).is_ok()) {
+            let empty = |draft: &Draft| draft.clips.iter().filter(|clip| clip.samples == 0).count();
+            let plainer = sampled_drafts(&draft);
+            assert_eq!(plainer.len(), empty(&draft));
+            for one in plainer {
+                assert!(check(&one.figure()).is_ok());
+                assert_eq!(empty(&one) + 1, empty(&draft));
+                assert!(smaller_drafts(&one)
+                    .iter()
+                    .all(|less| empty(less) <= empty(&one)));
+            }
         }
     }
 

@@ -54,7 +54,7 @@ impl Random {
 /// The example figures that the program shows, as texts.
 pub fn example_texts() -> Vec<Vec<u8>> {
     let folder = concat!(env!("CARGO_MANIFEST_DIR"), "/../../examples");
-    let names = ["printed", "arm", "hand", "signs", "pause", "held"];
+    let names = ["printed", "arm", "hand", "signs", "turn", "held", "pause"];
     let path = |name: &&str| format!("{folder}/{name}.figure");
     names
         .iter()
@@ -131,7 +131,7 @@ pub fn random_figure(random: &mut Random) -> Figure {
         let parent = random.below(joint + 1);
         plan.push(if parent == joint { 255 } else { parent as u16 });
     }
-    let samples: Vec<usize> = (0..clips).map(|_| random.between(1, 4)).collect();
+    let samples: Vec<usize> = (0..clips).map(|_| random.below(5)).collect();
     for count in &samples {
         plan.extend([*count as u16, random.below(2) as u16]);
     }

@@ -4,18 +4,18 @@ use Rattle.model.specs.Numbers.{narrow, whole, floor, ceiling, floorInde
 use Rattle.model.specs.Rotations.{normalised, lerpQuaternion, identityMatrix, productRow, product, floats, quaternionToMatrix, fromTrace, fromDiagonal, matrixToQuaternion}
 use Rattle.model.specs.Pose.{identityPose, lerp, toMatrix, fromMatrix, concat}
 use Rattle.model.specs.Answers.{values, _then_, each, require, unlessRefused}
-use Rattle.model.specs.Plan.{word, jointCount, clipCount, parameterCount, stateCount, initialState, parent, isRoot, sampleCountAt, sampleCount, endingAt, ending, isStopping, afterNodes, afterTransitions, stateAt, nodeCount, kindAt, kind, isClip, isLerp, inputA, inputB, nodeParameter, transitionCountAt, transitionCount, conditionParameterAt, conditionParameter, operator, targetState, planEnd, total, clipNodesAmong, clipNodesBefore, clipNode, transitionsBefore, samplesBefore, posesAt, numberAt, numbersLength, number, samplePose}
+use Rattle.model.specs.Plan.{word, jointCount, clipCount, parameterCount, stateCount, initialState, parent, isRoot, sampleCountAt, sampleCount, isEmpty, endingAt, ending, isStopping, afterNodes, afterTransitions, stateAt, nodeCount, kindAt, kind, isClip, isLerp, inputA, inputB, nodeParameter, transitionCountAt, transitionCount, conditionParameterAt, conditionParameter, operator, targetState, planEnd, total, clipNodesAmong, clipNodesBefore, clipNode, transitionsBefore, samplesBefore, posesAt, numberAt, numbersLength, number, samplePose}
 use Rattle.model.specs.Check.{wordIs, within, checkHeader, checkParent, checkClip, used, checkNode, checkTransition, checkState, check}
 use Rattle.model.specs.Table.{tableTo}
 use Rattle.model.specs.Clips.{firstIndex, secondIndex, factor, sampledPosition, blankInstances, duration, poseAt, clipPose}
-use Rattle.model.specs.Tree.{additive, targetLength, synchronizedRate, isTouched, nodeLength, nodeTarget, inputSynchronized, synchronizeNode, synchronizeNodes, synchronize, nodePose, nodePoses, statePose}
+use Rattle.model.specs.Tree.{additive, targetLength, synchronizedRate, playsSamples, isTouched, nodeLength, nodeTarget, inputSynchronized, synchronizeNode, synchronizeNodes, synchronize, nodePose, nodePoses, statePose}
 use Rattle.model.specs.Controller.{blank, synchronizeStates, fresh, isTargetBelow, frameVerdict, nowAt, isEnded, holds, firstPassing, winner, startedBy, stepFrom, elapsed, transitionFactor, currentInstances, targetInstances, instancesIn, currentPose, targetPose, poseIn}
 use Rattle.model.specs.Skeleton.{parentMatrix, jointMatrix, jointMatrices, pageMatrix, flat, written}
 use Rattle.model.specs.Run.{startVerdict, startPlayer, shown, framePlayer, frameMatrices, callVerdict, changed, after, chosenFloats, observation, runFrom, run}
 
 -- the check of a plan
 unfoldable pub check-opened : Unit {0}
-unfolding _then_ each require word jointCount clipCount parameterCount stateCount initialState parent isRoot sampleCountAt sampleCount endingAt ending isStopping afterNodes afterTransitions stateAt nodeCount kindAt kind isClip isLerp inputA inputB nodeParameter transitionCountAt transitionCount conditionParameterAt conditionParameter operator targetState planEnd total clipNodesAmong clipNodesBefore clipNode transitionsBefore samplesBefore posesAt numberAt numbersLength wordIs within checkHeader checkParent checkClip used checkNode checkTransition checkState check
+unfolding _then_ each require word jointCount clipCount parameterCount stateCount initialState parent isRoot sampleCountAt sampleCount isEmpty endingAt ending isStopping afterNodes afterTransitions stateAt nodeCount kindAt kind isClip isLerp inputA inputB nodeParameter transitionCountAt transitionCount conditionParameterAt conditionParameter operator targetState planEnd total clipNodesAmong clipNodesBefore clipNode transitionsBefore samplesBefore posesAt numberAt numbersLength wordIs within checkHeader checkParent checkClip used checkNode checkTransition checkState check
 check-opened = tt
 
 -- the float definitions
@@ -24,5 +24,5 @@ unfolding add sub mul div lt le eq ne neg odd size round ofInt toUnsigned toBits
 floats-opened = tt
 
 unfoldable pub all-opened : Unit {0}
-unfolding check-opened floats-opened values unlessRefused number samplePose tableTo blankInstances duration poseAt clipPose additive isTouched nodeLength nodeTarget inputSynchronized synchronizeNode synchronizeNodes synchronize nodePose nodePoses statePose blank synchronizeStates fresh isTargetBelow frameVerdict isEnded holds firstPassing winner startedBy stepFrom currentInstances targetInstances instancesIn currentPose targetPose poseIn parentMatrix jointMatrix jointMatrices pageMatrix flat written startVerdict startPlayer shown framePlayer frameMatrices callVerdict changed after chosenFloats observation runFrom run
+unfolding check-opened floats-opened values unlessRefused number samplePose tableTo blankInstances duration poseAt clipPose additive playsSamples isTouched nodeLength nodeTarget inputSynchronized synchronizeNode synchronizeNodes synchronize nodePose nodePoses statePose blank synchronizeStates fresh isTargetBelow frameVerdict isEnded holds firstPassing winner startedBy stepFrom currentInstances targetInstances instancesIn currentPose targetPose poseIn parentMatrix jointMatrix jointMatrices pageMatrix flat written startVerdict startPlayer shown framePlayer frameMatrices callVerdict changed after chosenFloats observation runFrom run
 all-opened = tt

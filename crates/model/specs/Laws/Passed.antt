@@ -12,7 +12,7 @@ use Rattle.model.specs.Plan.{maxJoints, maxClips, maxParameters, maxStat
 use Rattle.model.specs.Check.{check, checkHeader, checkParent, checkClip, checkState}
 use Rattle.model.specs.Laws.Header as header
 use Rattle.model.specs.Laws.Answers.{then-left, then-right, each-at, require-true}
-use Rattle.model.specs.Laws.Tests.{word-true, word-there, or-right, within-low, within-high}
+use Rattle.model.specs.Laws.Tests.{word-true, word-there, or-right, within-high}
 use Rattle.model.specs.Laws.State.{target-below, few-nodes, few-transitions}
 use Rattle.model.specs.Laws.Totals.{total-most}
 use Rattle.model.specs.Laws.Trees.{clip-nodes-half}
@@ -43,10 +43,6 @@ module _ (plan : List ℕ) (n : ℕ) (ok : check plan n ≡ accepted) where
   pub parent-earlier : (j : ℕ) → j < jointCount plan → isRoot plan j ≡ false → parent plan j < j
   unfolding checkParent
   parent-earlier j h e = ltb-true _ _ (or-right (isRoot plan j) (ltb (parent plan j) j) (word-true _ _ _ _ (each-at _ _ parents-passed j h)) e)
-
-  pub some-samples : (c : ℕ) → c < clipCount plan → 0 < sampleCount plan c
-  unfolding checkClip
-  some-samples c h = within-low _ _ _ (word-true _ _ _ _ (then-left _ _ (each-at _ _ clips-passed c h)))
 
   pub few-samples : (c : ℕ) → c < clipCount plan → sampleCount plan c ≤ maxSamples
   unfolding checkClip

@@ -26,6 +26,14 @@ pub and-right : (a b : Bool) → a && b ≡ true → b ≡ true
 and-right true b e = e
 and-right false b e = cc
 
+pub and-true : (a : Bool) → a && true ≡ a
+and-true true = refl
+and-true false = refl
+
+pub and-false : (a : Bool) → a && false ≡ false
+and-false true = refl
+and-false false = refl
+
 pub or-right : (a b : Bool) → a || b ≡ true → a ≡ false → b ≡ true
 or-right true b e f = cc
 or-right false b e f = e

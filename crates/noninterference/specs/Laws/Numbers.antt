@@ -1,8 +1,7 @@
 -- What alike numbers have in common: transitions of reachable states, rates of played clips, and their poses at chosen joints.
-use Prim.Native.Nat.{ℕ, _<_}
+use Prim.Native.Nat.{ℕ, zero, suc, _<_}
 use native.Mathlib.Omega.{arith}
-use native.Mathlib.Nat.{mod-lt}
-use mathlib.Core.Path.{_≡_, subst}
+use mathlib.Core.Path.{_≡_, refl, subst}
 use mathlib.Core.Logic.{inl, inr}
 use mathlib.Core.List.{List, List·Memᴰ}
 use lib.ListN.{length}
@@ -13,8 +12,9 @@ use Rattle.model.specs.Plan.{clipCount, stateCount, transitionCount, sampleCoun
 use Rattle.model.specs.Check.{check}
 use Rattle.model.specs.Clips.{firstIndex, secondIndex, sampledPosition, duration, poseAt, clipPose}
 use Rattle.model.specs.Unseen.{Reachable, Played, plays, HasNumber, Unseen}
-use Rattle.model.specs.Laws.Passed.{numbers-fit, some-samples, state-passed, reachable-below}
+use Rattle.model.specs.Laws.Passed.{numbers-fit, state-passed, reachable-below}
 use Rattle.model.specs.Laws.State.{clip-below}
+use Rattle.model.specs.Laws.Clips.{first-below, second-below, pose-of-empty, pose-of-samples}
 use Rattle.model.specs.Laws.Numbers.{number-inside, one-name}
 use Rattle.noninterference.specs.Alike.{Closed, AlikeNumbers}
 
@@ -71,8 +71,12 @@ module _ (plan chosen : List ℕ) (a b : List Float) (ok : check plan (length a)
         )
 
     pub clip-same : (local : Float) → clipPose plan a c j local ≡ clipPose plan b c j local
-    unfolding clipPose poseAt firstIndex secondIndex
-    clip-same local =
-        let n : 0 < sampleCount plan c = some-samples plan (length a) ok c (played-below p) in
-        let x = sampledPosition (isStopping plan c) (sampleCount plan c) (local *₃₂ number plan b (Rate c)) in
-        rw (rate-same p, sample-same (firstIndex (sampleCount plan c) x) (mod-lt _ n), sample-same (secondIndex (sampleCount plan c) x) (mod-lt _ n))
+    unfolding clipPose
+    clip-same local = rw (rate-same p) (at-same (sampleCount plan c) refl (local *₃₂ number plan b (Rate c)))
+      where
+        at-same : (n : ℕ) → sampleCount plan c ≡ n → (x : Float) → poseAt plan a c j x ≡ poseAt plan b c j x
+        at-same zero e x = rw (pose-of-empty plan c a j x e, pose-of-empty plan c b j x e)
+        at-same (suc n) e x =
+            let some : 0 < sampleCount plan c = omega arith in
+            let at = sampledPosition (isStopping plan c) (sampleCount plan c) x in
+            rw (pose-of-samples plan c a j x some, pose-of-samples plan c b j x some, sample-same (firstIndex (sampleCount plan c) at) (first-below plan c at some), sample-same (secondIndex (sampleCount plan c) at) (second-below plan c at some))

@@ -2,22 +2,21 @@
 use Prim.Native.Nat.{ℕ, zero, suc, _+_, _*_, _/_, _≤_, _<_}
 use native.Mathlib.Omega.{arith}
 use mathlib.Core.Path.{_≡_, refl, sym, ap, _∙_, subst}
-use mathlib.Core.Bool.{true, false, _&&_}
+use mathlib.Core.Bool.{true}
 use mathlib.Core.List.{List, List·Memᴰ}
 use lib.ListN.{length}
 use lib.Ieee.{Float, nan}
-use borrow.Author.Tests.{eqb-true}
 use Rattle.model.specs.declared.Pose.{Pose}
 use Rattle.model.specs.declared.ClipInstance.{ClipInstance}
 use Rattle.model.specs.Answers.{accepted}
-use Rattle.model.specs.Plan.{stateCount, nodeCount, kind, isClip, isLerp, inputA, inputB, clipNode}
+use Rattle.model.specs.Plan.{stateCount, nodeCount, isClip, inputA, inputB, clipNode}
 use Rattle.model.specs.Check.{check}
 use Rattle.model.specs.Clips.{localTime, setPlaybackRate, instanceAt, clipPose}
 use Rattle.model.specs.Tree.{rateSet, isTouched, nodeLength, nodeTarget, inputSynchronized, synchronizeNode, synchronizeNodes, synchronize, nodePose, nodePoses, statePose}
 use Rattle.model.specs.Unseen.{Reachable, plays, Read, byNode}
 use Rattle.model.specs.Laws.Passed.{state-passed}
 use Rattle.model.specs.Laws.State.{a-earlier, b-earlier}
-use Rattle.model.specs.Laws.Tests.{and-left, and-right}
+use Rattle.model.specs.Laws.Touched.{touched-blends, touched-a, touched-b}
 use Rattle.model.specs.Laws.ClipNodes.{same-state}
 use Rattle.model.specs.Laws.Table.{table-same}
 use Rattle.noninterference.specs.Alike.{Closed, AlikeNumbers}
@@ -77,35 +76,22 @@ module _ (plan chosen : List ℕ) (a b : List Float) (ok : check plan (length a)
     input-same i h e x y t same = rate-set-same plan same (clipNode plan s i) time _ _ (λ q. let r : Reachable plan s = own i h e q in rw (t r, length-same i r h e))
 
     module _ (i : ℕ) (h : i < nodeCount plan s) (t : isTouched plan s i ≡ true) where
-      no-clip : isClip plan s i ≡ false
-      unfolding isTouched isLerp isClip
-      no-clip = rw (eqb-true (kind plan s i) 1 (and-left (isLerp plan s i) (isClip plan s (inputA plan s i) && isClip plan s (inputB plan s i)) t))
-
-      both-clips : isClip plan s (inputA plan s i) && isClip plan s (inputB plan s i) ≡ true
-      unfolding isTouched
-      both-clips = and-right (isLerp plan s i) (isClip plan s (inputA plan s i) && isClip plan s (inputB plan s i)) t
-
-      a-clip : isClip plan s (inputA plan s i) ≡ true
-      a-clip = and-left (isClip plan s (inputA plan s i)) (isClip plan s (inputB plan s i)) both-clips
-
-      b-clip : isClip plan s (inputB plan s i) ≡ true
-      b-clip = and-right (isClip plan s (inputA plan s i)) (isClip plan s (inputB plan s i)) both-clips
-
       a-node : inputA plan s i < nodeCount plan s
-      a-node = omega (arith, a-earlier plan s (state-passed plan (length a) ok s below) i h no-clip)
+      a-node = omega (arith, a-earlier plan s (state-passed plan (length a) ok s below) i h (touched-blends plan s i t))
 
       b-node : inputB plan s i < nodeCount plan s
-      b-node = omega (arith, b-earlier plan s (state-passed plan (length a) ok s below) i h no-clip)
+      b-node = omega (arith, b-earlier plan s (state-passed plan (length a) ok s below) i h (touched-blends plan s i t))
 
       target-same : Reachable plan s → nodeTarget plan a l time s i ≡ nodeTarget plan b m time s i
       unfolding nodeTarget
-      target-same r = rw (ps .at _ (byNode r i h no-clip), length-same (inputA plan s i) r a-node a-clip, length-same (inputB plan s i) r b-node b-clip)
+      target-same r =
+          rw (ps .at _ (byNode r i h (touched-blends plan s i t)), length-same (inputA plan s i) r a-node (touched-a plan s i t), length-same (inputB plan s i) r b-node (touched-b plan s i t))
 
     node-synchronized : (i : ℕ) → i < nodeCount plan s → {is ks : List Float} → SameInstances plan is ks → SameInstances plan (synchronizeNode plan a l time s i is) (synchronizeNode plan b m time s i ks)
     unfolding synchronizeNode
     node-synchronized i h same =
         cond-both (SameInstances plan) (isTouched plan s i)
-        (λ t. input-same _ (b-node i h t) (b-clip i h t) _ _ (target-same i h t) (input-same _ (a-node i h t) (a-clip i h t) _ _ (target-same i h t) same))
+        (λ t. input-same _ (b-node i h t) (touched-b plan s i t) _ _ (target-same i h t) (input-same _ (a-node i h t) (touched-a plan s i t) _ _ (target-same i h t) same))
         (λ t. same)
 
     nodes-synchronized : (n : ℕ) → n ≤ nodeCount plan s → {is ks : List Float} → SameInstances plan is ks → SameInstances plan (synchronizeNodes plan a l time s n is) (synchronizeNodes plan b m time s n ks)

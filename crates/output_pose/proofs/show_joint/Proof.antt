@@ -1,16 +1,17 @@
--- `output_pose::show_joint` meets its contract: the state's only node is a clip, and the joint's pose is between the clip's samples. Assumes nothing.
+-- `output_pose::show_joint` meets its contract: the state's only node is a clip, and the joint's pose is between the samples that the clip has. Assumes nothing.
 use borrow.Author.Needs.{needs}
 use Prim.Native.Nat.{_<_}
 use native.Mathlib.Omega.{arith}
-use mathlib.Core.Path.{_≡_, sym, ap, _∙_}
+use mathlib.Core.Path.{_≡_, sym, _∙_}
 use mathlib.Core.List.{List}
 use lib.Ieee.{Float}
 use Rattle.model.specs.Plan.{jointCount, clipCount}
 use Rattle.model.specs.Tree.{statePose}
 use Rattle.layout.proofs.Laws.{joints-found}
-use Rattle.blend_tree.specs.Sampling.{Sized, samplesAt}
+use Rattle.blend_tree.specs.Sampling.{Sized}
 use Rattle.blend_tree.proofs.NodeLaws.{passes, clip-inside}
-use Rattle.blend_tree.proofs.SamplingLaws.{clip-sized, sampled}
+use Rattle.blend_tree.proofs.SamplingLaws.{clip-sized, sampled, between-shown}
+use Rattle.blend_tree.proofs.SynchronizeLaws.{clip-has-samples}
 use Rattle.output_pose.proofs.JointLaws.{only-clip, instance-there, only-pose, joint-shown}
 use Rattle.output_pose.proofs.show_joint.Statement.{statement}
 use Rattle.output_pose.proofs.show_joint.Tie as tie
@@ -32,10 +33,13 @@ instance-at-requires c κs = let p = start c .pre in instance-there (p .0 .0) (p
 clip-at-requires : tie.Need-clip-at-requires
 clip-at-requires c κs = (start (c .before) .pre .0 .0, clip-there (c .before))
 
+some : (c : tie.After-clip-at) → c .clip-at .result .samples ≡ 0 → ⊥
+some c = let n = c .before .before in clip-has-samples _ _ _ (n .node-at .ensures) (start n .pre .3) _ (c .clip-at .ensures)
+
 sized : (c : tie.After-clip-at) → Sized (c .clip-at .result)
 sized c =
     let n = c .before .before in
-    clip-sized (start n .pre .0 .0) (clip-there n) (c .clip-at .ensures)
+    clip-sized (start n .pre .0 .0) (clip-there n) (c .clip-at .ensures) (some c)
 
 clip-position-requires : tie.Need-clip-position-requires
 clip-position-requires c κs = sized c
@@ -48,12 +52,12 @@ joint-pose-requires c κs =
     let k = c .before .before in
     let n = k .before .before in
     let p = start n .pre in
-    (sampled (p .0 .0) (clip-there n) _ (k .clip-at .ensures) (c .clip-samples .ensures), omega (arith, p .1))
+    (sampled (p .0 .0) (clip-there n) _ (k .clip-at .ensures) (some k) (c .clip-samples .ensures), omega (arith, p .1))
 
 calculate-root-pose-requires : tie.Need-calculate-root-pose-requires
 calculate-root-pose-requires c κs =
     let n = c .before .before .before .before .before .before in
-    omega (arith, one-joint n, start n .pre .3)
+    omega (arith, one-joint n, start n .pre .4)
 
 -- the pose, whatever the parameters are
 shown : (c : tie.After-joint-pose)
@@ -64,7 +68,9 @@ shown c parameters =
     let k = p .before .before in
     let n = k .before .before in
     let r = start n .pre in
-    c .joint-pose .ensures ∙ only-pose (r .0 .0) (r .0 .1) (r .2) (n .node-at .ensures) _ _ (k .before .instance-at .ensures) (k .clip-at .ensures) (p .clip-samples .ensures ∙ ap (samplesAt _) (p .before .clip-position .ensures)) parameters 0
+    c .joint-pose .ensures
+    ∙ between-shown _ _ _ (k .clip-at .ensures) _ _ 0 (r .0 .0) (some k) (p .before .clip-position .ensures) (p .clip-samples .ensures)
+    ∙ only-pose (r .0 .0) (r .0 .1) (r .2) (n .node-at .ensures) _ _ (k .before .instance-at .ensures) parameters 0
 
 returns : tie.Need-returns
 returns c =

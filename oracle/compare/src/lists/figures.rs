@@ -76,6 +76,14 @@ pub fn stopping(mut draft: Draft, clips: &[usize]) -> Draft {
     draft
 }
 
+/// The figure with these of its clips without samples.
+pub fn emptied(mut draft: Draft, clips: &[usize]) -> Draft {
+    for &clip in clips {
+        draft.clips[clip].samples = 0;
+    }
+    posed(draft, Numbers::Sensible)
+}
+
 /// One state that plays a clip of so many samples.
 pub fn one_clip(joints: u16, samples: u16, rate: f32) -> Draft {
     figure(joints, &[(samples, rate)], 0, vec![state(&[CLIP], &[])])

@@ -3,7 +3,7 @@
 
 pub mod call;
 mod cases;
-mod figures;
+pub(crate) mod figures;
 pub mod random_calls;
 pub mod recorded;
 pub mod report;

@@ -148,5 +148,7 @@ mod tests {
             );
         }
         assert!(stdin.len() + stdout.len() < 2_000_000);
+        // `rt try` lets a program write no more.
+        assert!(stdout.len() <= 1 << 20);
     }
 }

@@ -11,24 +11,25 @@ pub struct Place {
     pub factor: f32,
 }
 
-pub fn place(clip: &Clip, position: f32) -> Place {
+/// None where the clip has no samples, whatever its ending.
+pub fn place(clip: &Clip, position: f32) -> Option<Place> {
     let samples = usize::from(clip.samples);
-    let last = samples - 1;
+    let last = samples.checked_sub(1)?;
     // NaN is never at the end.
     if clip.stops && position >= last as f32 {
-        return Place {
+        return Some(Place {
             first: last,
             second: last,
             factor: 0.0,
-        };
+        });
     }
     let floor = position.floor() as usize;
     let ceiling = position.ceil() as usize;
-    Place {
+    Some(Place {
         first: floor % samples,
         second: ceiling % samples,
         factor: position - floor as f32,
-    }
+    })
 }
 
 /// In seconds, at this rate.
@@ -59,7 +60,7 @@ mod tests {
 
     /// First index, second index and the factor's bits, every NaN by one pattern.
     fn at(samples: u16, stops: bool, position: f32) -> (usize, usize, u32) {
-        let place = place(&Clip { samples, stops }, position);
+        let place = place(&Clip { samples, stops }, position).expect("a clip with samples");
         (place.first, place.second, crate::judge::bits(place.factor))
     }
 
@@ -122,6 +123,19 @@ mod tests {
         }
         assert_eq!(at(1, LOOP, -0.0), expected(0, 0, -0.0));
         assert_eq!(at(1, LOOP, 0.5), expected(0, 0, 0.5));
+    }
+
+    /// A stopping clip's last position would be -1 here.
+    #[test]
+    fn without_samples_there_is_no_place() {
+        let positions = [0.0, -0.0, 0.5, 1.0, -0.5, -1.0, -1.5, 1e30];
+        let others = [f32::INFINITY, f32::NEG_INFINITY, f32::NAN];
+        for position in positions.into_iter().chain(others) {
+            for stops in [LOOP, STOP] {
+                let clip = Clip { samples: 0, stops };
+                assert_eq!(place(&clip, position), None, "{position}");
+            }
+        }
     }
 
     /// Case j of the bench sheet.

@@ -12,6 +12,7 @@ pub mod tree;
 
 use crate::player::{Player, BLANK, PARAMETERS};
 use crate::texts::figure::{Figure, Refusal};
+use crate::texts::plan::Clip;
 use figure::Checked;
 use rotation::Matrix;
 
@@ -36,10 +37,10 @@ impl Model {
         }
     }
 
-    /// Whether the figure is accepted, and a clip of it stops.
-    pub fn has_stopping_clip(&self) -> bool {
+    /// The clips of an accepted figure.
+    pub fn clips(&self) -> &[Clip] {
         let figure = self.figure.as_ref();
-        figure.is_ok_and(|figure| figure.plan.clips.iter().any(|clip| clip.stops))
+        figure.map_or(&[], |figure| &figure.plan.clips)
     }
 
     pub fn player(&self) -> &Player {
@@ -95,5 +96,7 @@ fn refused<T>(number: u8) -> Result<T, Refusal> {
     Err(Refusal { number, place: 0 })
 }
 
+#[cfg(test)]
+mod pause_tests;
 #[cfg(test)]
 mod tests;

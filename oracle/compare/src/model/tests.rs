@@ -147,7 +147,7 @@ fn elsewhere_endings_are_not_seen() {
 }
 
 /// The call's answer, and what a frame shows.
-fn done(model: &mut Model, call: Call) -> Result<Vec<Matrix>, Refusal> {
+pub fn done(model: &mut Model, call: Call) -> Result<Vec<Matrix>, Refusal> {
     match call {
         Call::Update(delta) => model.update(f64::from_bits(delta)),
         Call::Speed(speed) => model.speed(f64::from_bits(speed)),

@@ -19,19 +19,30 @@ impl Tree<'_> {
         &self.figure.state(self.state).nodes[usize::from(node)]
     }
 
-    /// Each lerp of two clips has both run through in the same time.
+    /// Each lerp of two clips with samples has both run through in the same time.
     pub fn synchronise(&self, player: &mut Player) {
         for node in &self.figure.state(self.state).nodes {
             let Node::Lerp(inputs) = node else { continue };
-            if let (Node::Clip(a), Node::Clip(b)) = (self.node(inputs.a), self.node(inputs.b)) {
-                self.synchronise_clips(inputs, [*a, *b], player);
+            let clips = [inputs.a, inputs.b].map(|input| self.sampled_clip(input));
+            if let [Some(a), Some(b)] = clips {
+                self.synchronise_clips(inputs, [a, b], player);
             }
         }
     }
 
-    fn synchronise_clips(&self, inputs: &Inputs, clips: [u16; 2], player: &mut Player) {
+    /// The clip that a node plays, if that is one with samples.
+    fn sampled_clip(&self, node: u16) -> Option<usize> {
+        let Node::Clip(clip) = self.node(node) else {
+            return None;
+        };
+        let clip = usize::from(*clip);
+        (!self.figure.clip(clip).is_empty()).then_some(clip)
+    }
+
+    /// The lerp node with these inputs, which play these clips.
+    pub fn synchronise_clips(&self, inputs: &Inputs, clips: [usize; 2], player: &mut Player) {
         let p = player.parameters[usize::from(inputs.parameter)];
-        let lengths = clips.map(|clip| self.duration(usize::from(clip)));
+        let lengths = clips.map(|clip| self.duration(clip));
         let target = (1.0 - p) * lengths[0] + p * lengths[1];
         for (input, length) in [inputs.a, inputs.b].into_iter().zip(lengths) {
             let number = self.figure.instance(self.state, usize::from(input));
@@ -50,7 +61,7 @@ impl Tree<'_> {
         self.node_pose(player, root, joint)
     }
 
-    fn node_pose(&self, player: &Player, node: usize, joint: usize) -> Pose {
+    pub fn node_pose(&self, player: &Player, node: usize, joint: usize) -> Pose {
         let input = |node: u16| self.node_pose(player, usize::from(node), joint);
         let value = |inputs: &Inputs| player.parameters[usize::from(inputs.parameter)];
         match &self.figure.state(self.state).nodes[node] {
@@ -63,10 +74,13 @@ impl Tree<'_> {
         }
     }
 
+    /// The identity itself where the clip has no samples: nothing is lerped then.
     fn clip_pose(&self, player: &Player, node: usize, clip: usize, joint: usize) -> Pose {
         let instance = player.instances[self.figure.instance(self.state, node)];
         let position = local_time(instance, self.time) * self.figure.rate(clip);
-        let place = place(self.figure.clip(clip), position);
+        let Some(place) = place(self.figure.clip(clip), position) else {
+            return Pose::IDENTITY;
+        };
         let sample = |sample: usize| self.figure.pose(clip, sample, joint);
         sample(place.first).lerp(sample(place.second), place.factor)
     }

@@ -143,13 +143,34 @@ fn stopping() -> Figure {
     figure
 }
 
+/// BLEND with its second clip empty.
+fn empty() -> Figure {
+    let mut figure = blend();
+    figure.plan[8] = 0;
+    figure.numbers.truncate(figure.numbers.len() - 8);
+    figure
+}
+
 #[test]
-fn the_rust_plays_where_no_clip_stops() {
+fn the_rust_plays_where_all_clips_loop_and_have_samples() {
     assert!(Reference::start(&blend()).is_rust());
     assert!(Reference::start(&NO_FIGURE).is_rust());
-    let reference = Reference::start(&stopping());
-    assert_eq!(reference.answer(), Ok(()));
-    assert!(!reference.is_rust());
+    for figure in [stopping(), empty()] {
+        let reference = Reference::start(&figure);
+        assert_eq!(reference.answer(), Ok(()));
+        assert!(!reference.is_rust());
+    }
+}
+
+#[test]
+#[should_panic(expected = "the Rust is given a clip that stops or is empty")]
+fn the_rust_is_never_given_an_empty_clip() {
+    super::rust::RustPlayer::start(&empty());
+}
+
+/// Of a refused figure the Rust plays the blank player, and refuses the frames.
+#[test]
+fn a_wrong_ending_is_refused_in_every_frame() {
     let mut wrong = stopping();
     wrong.plan[7] = 2;
     let mut reference = Reference::start(&wrong);

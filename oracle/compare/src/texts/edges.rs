@@ -21,7 +21,7 @@ pose,00000000,3f800000,00000000,3f800000,3f800000,00000000,00000000,00000000
 pub type Answer = Option<(u8, usize)>;
 
 /// A line of `BLEND`, what stands in its place, and the answer. Line 14 comes after the last.
-const LINES: [(usize, &str, Answer); 100] = [
+const LINES: [(usize, &str, Answer); 102] = [
     (1, "figure,1,2,1,2,0\n", None),
     // Lines that are not there, not whole, or too many.
     (1, "", Some((11, 1))),
@@ -121,6 +121,8 @@ const LINES: [(usize, &str, Answer); 100] = [
     (1, "figure,1,2,1,17,0\n", Some((11, 1))),
     (3, "clip,4096,3f800000,0\n", Some((11, 14))),
     (3, "clip,4097,3f800000,2\n", Some((11, 3))),
+    (3, "clip,0,3f800000,0\n", Some((11, 13))),
+    (4, "clip,0,40000000,2\n", Some((11, 13))),
     (5, "state,31,1\n", Some((11, 9))),
     (5, "state,32,1\n", Some((11, 5))),
     (5, "state,3,16\n", Some((11, 10))),
@@ -154,29 +156,63 @@ const WHOLE: [(&str, Answer); 11] = [
     ),
     (
         "figure,1,1,0,1,0\njoint,255\nclip,0,00000000,0\nstate,0,0\n",
-        Some((2, 6)),
+        Some((2, 8)),
     ),
     ("figure,0,16,0,0,0\nclip,4096,00000000,0\n", Some((11, 3))),
 ];
 
 /// N and ending of two clips, and the answer. Their state has no nodes, which is found after them.
-const CLIPS: [([u16; 4], Answer); 9] = [
+const CLIPS: [([u16; 4], Answer); 11] = [
     ([1, 0, 1, 0], Some((2, 10))),
     ([1, 1, 1, 1], Some((2, 10))),
+    ([0, 0, 0, 1], Some((2, 10))),
     ([1, 2, 1, 0], Some((14, 7))),
     ([1, 0, 1, 2], Some((14, 9))),
     ([1, 2, 1, 2], Some((14, 7))),
-    ([0, 2, 1, 0], Some((2, 6))),
-    ([0, 0, 1, 2], Some((2, 6))),
+    ([0, 2, 1, 0], Some((14, 7))),
+    ([0, 2, 0, 2], Some((14, 7))),
+    ([0, 0, 1, 2], Some((14, 9))),
     ([1, 2, 0, 0], Some((14, 7))),
-    ([1, 1, 0, 65535], Some((2, 8))),
+    ([1, 1, 0, 65535], Some((14, 9))),
+];
+
+const BETWEEN: [&str; 3] = [
+    "clip,2,3f800000,0",
+    "clip,0,3f800000,1",
+    "clip,1,3f800000,0",
+];
+
+/// Clip lines of a figure that plays its last clip, how many pose lines follow, and the answer. The
+/// pose lines begin behind the state's two.
+const PAUSES: [(&[&str], usize, Answer); 12] = [
+    (&["clip,0,3f800000,0"], 0, None),
+    (&["clip,0,3f800000,1"], 0, None),
+    (&["clip,0,7fc00000,1"], 0, None),
+    (&["clip,0,3f800000,2"], 0, Some((14, 7))),
+    (&["clip,0,3f800000,65536"], 0, Some((11, 3))),
+    (&["clip,00,3f800000,0"], 0, Some((11, 3))),
+    (&["clip,0,,0"], 0, Some((11, 3))),
+    (&["clip,0,3f800000,0"], 1, Some((11, 6))),
+    (&["clip,0,3f800000,0", "clip,0,00000000,1"], 0, None),
+    (&BETWEEN, 3, None),
+    (&BETWEEN, 2, Some((11, 10))),
+    (&BETWEEN, 4, Some((11, 11))),
 ];
 
 pub fn edges() -> Vec<(Vec<u8>, Answer)> {
     let lines = LINES.map(|(number, line, answer)| (with_line(number, line).into(), answer));
     let whole = WHOLE.map(|(text, answer)| (text.into(), answer));
     let clips = CLIPS.map(|(words, answer)| (two_clips(words).into(), answer));
-    lines.into_iter().chain(whole).chain(clips).collect()
+    let pauses = PAUSES.map(|(clips, poses, answer)| (paused(clips, poses).into(), answer));
+    let edges = lines.into_iter().chain(whole).chain(clips);
+    edges.chain(pauses).collect()
+}
+
+fn paused(clips: &[&str], poses: usize) -> String {
+    let (count, last) = (clips.len(), clips.len() - 1);
+    let clips: String = clips.iter().map(|line| format!("{line}\n")).collect();
+    let poses = format!("{POSE_WITHOUT_LF}\n").repeat(poses);
+    format!("figure,1,{count},0,1,0\njoint,255\n{clips}state,1,0\nnode,0,{last},0,0\n{poses}")
 }
 
 fn two_clips([samples, ending, others, other]: [u16; 4]) -> String {
@@ -195,7 +231,7 @@ fn with_line(number: usize, line: &str) -> String {
 #[cfg(test)]
 mod tests {
     use super::*;
-    use crate::texts::printed::played;
+    use crate::texts::printed::{played, printed};
 
     #[test]
     fn are_answered_as_the_tables_say() {
@@ -203,6 +239,18 @@ mod tests {
             let refusal = played(&text).err();
             let answer = refusal.map(|refusal| (refusal.number, refusal.place));
             assert_eq!(answer, expected, "{}", text.escape_ascii());
+        }
+    }
+
+    /// In the last table all that is played shows the identity, but where the last clip has a sample.
+    #[test]
+    fn pauses_show_the_identity() {
+        let (one, none) = ("3f800000", "00000000");
+        let entries = (0..16).map(|i| if i % 5 == 0 { one } else { none });
+        let line = format!("joint,0,{}\n", entries.collect::<Vec<_>>().join(","));
+        for (clips, poses, _) in PAUSES.iter().filter(|(_, _, answer)| answer.is_none()) {
+            let text = paused(clips, *poses);
+            assert_eq!(printed(text.as_bytes()) == line, *poses == 0, "{text}");
         }
     }
 }

@@ -2,7 +2,7 @@
 
 use super::case::Case;
 use super::edges::{edges, BLEND};
-use super::limits::{full_text, long_text, most_words_text};
+use super::limits::{full_text, long_text, most_words_text, pauses_text};
 use super::printed::{printed, LONGEST};
 use crate::generator::Generator;
 use std::collections::BTreeMap;
@@ -46,6 +46,7 @@ fn cases(figures: &BTreeMap<String, Vec<u8>>) -> io::Result<Vec<Case>> {
     cases.extend([
         Case::text(full_text(&mut generator, 64)),
         Case::text(full_text(&mut generator, 65)),
+        Case::text(pauses_text()),
         Case::text(most_words_text(&mut generator, 1)),
         Case::text(most_words_text(&mut generator, 2)),
         Case::text(longest),

@@ -26,13 +26,24 @@ pub fn long_text(generator: &mut Generator, length: usize) -> String {
 
 /// All counts but J and N at their upper limits, and so many clip nodes in all, from 61 to 76.
 pub fn full_text(generator: &mut Generator, clip_nodes: u16) -> String {
+    let mut draft = full(1, 1, clip_nodes);
+    put_poses(generator, &mut draft);
+    draft.text()
+}
+
+/// All counts but N at their upper limits: without samples this text is short enough.
+pub fn pauses_text() -> String {
+    full(JOINTS, 0, 64).text()
+}
+
+fn full(joints: u16, samples: u16, clip_nodes: u16) -> Draft {
     let mut leaves = [1; 16];
     leaves[..3].fill(16);
     leaves[15] = clip_nodes - 60;
     let mut draft = Draft {
         parameters: 32,
-        parents: vec![255],
-        clips: (0..CLIPS).map(|number| clip(1, number % 2)).collect(),
+        parents: vec![255; usize::from(joints)],
+        clips: (0..CLIPS).map(|number| clip(samples, number % 2)).collect(),
         states: leaves.map(|leaves| balanced(leaves, CLIPS, 32)).to_vec(),
         ..Draft::default()
     };
@@ -40,8 +51,7 @@ pub fn full_text(generator: &mut Generator, clip_nodes: u16) -> String {
         state.transitions = vec![transition(31, false, 15); 15];
         state.transitions.push(transition(31, true, 15));
     }
-    put_poses(generator, &mut draft);
-    draft.text()
+    draft
 }
 
 /// As many words as a text can have: 2885. The samples of its first clip are the only ones, so that
@@ -139,10 +149,19 @@ mod tests {
         assert_eq!(played(&text(65)), Err(refusal));
     }
 
-    /// Clips begin at place 69; the first has an ending that passes, or does not.
     #[test]
-    fn the_longest_plan_is_read_and_refused_at_its_clips() {
-        for (ending, number, place) in [(0, 2, 71), (1, 2, 71), (2, 14, 70)] {
+    fn a_full_text_without_samples_is_played() {
+        let text = pauses_text().into_bytes();
+        assert!(text.len() <= LONGEST);
+        assert_eq!(played(&text).unwrap().len(), usize::from(JOINTS));
+    }
+
+    /// Clips begin at place 69, and the first has an ending that passes, or does not. The fifth state's
+    /// first node is the 65th clip node.
+    #[test]
+    fn the_longest_plan_is_read_and_refused() {
+        let kind = 5 + 64 + 2 * 16 + 4 * (2 + 4 * 31 + 3 * 16) + 1;
+        for (ending, number, place) in [(0, 2, kind), (1, 2, kind), (2, 14, 70)] {
             let text = most_words_text(&mut Generator::new(1), ending).into_bytes();
             let figure = read(&text).unwrap();
             assert_eq!(figure.plan.len(), 2885);

@@ -14,3 +14,4 @@ pub mod random_figure;
 pub mod reader;
 mod shrink;
 pub mod spoil;
+mod wrong_figure;

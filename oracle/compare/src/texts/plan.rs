@@ -16,9 +16,21 @@ pub struct Plan {
 }
 
 pub struct Clip {
+    /// None is a pause.
     pub samples: u16,
     /// Whether it holds its last pose, and does not loop.
     pub stops: bool,
+}
+
+impl Clip {
+    pub fn is_empty(&self) -> bool {
+        self.samples == 0
+    }
+
+    /// Whether the Rust has such clips: with samples, and looping.
+    pub fn is_rusts(&self) -> bool {
+        !self.is_empty() && !self.stops
+    }
 }
 
 pub struct State {
@@ -105,7 +117,7 @@ impl Words<'_> {
 
     fn clip(&mut self) -> Result<Clip, Refusal> {
         Ok(Clip {
-            samples: self.count(1..=4096)?,
+            samples: self.count(0..=4096)?,
             stops: self.word(14, |word| word <= 1)? == 1,
         })
     }
@@ -241,9 +253,9 @@ mod tests {
             (4, [2, 65535], 2),
             (5, [0, 254], 3),
             (6, [1, 256], 3),
-            (7, [0, 4097], 2),
+            (7, [4097, 65535], 2),
             (8, [2, 65535], 14),
-            (9, [0, 65535], 2),
+            (9, [4097, 8192], 2),
             (10, [2, 256], 14),
             (11, [0, 32], 2),
             (12, [3, 65535], 4),
@@ -281,22 +293,30 @@ mod tests {
         assert_eq!(answer(&plan, NUMBERS), Some((4, 11)));
     }
 
-    /// Words at 7 to 10: N and ending of one clip, then of the other; the first wrong one decides.
+    /// The plan with these words at 7 to 10: N and ending of one clip, then of the other.
+    fn with_clips(words: [u16; 4]) -> Vec<u16> {
+        [&WORDS[..7], &words, &WORDS[11..LENGTH]].concat()
+    }
+
+    /// The first wrong one decides.
     #[test]
     fn an_ending_is_judged_between_its_own_count_and_the_next() {
         for (words, refusal) in [
             ([1, 0, 3, 0], None),
             ([1, 1, 3, 0], None),
             ([1, 1, 3, 1], None),
-            ([0, 2, 3, 0], Some((2, 7))),
-            ([1, 2, 0, 2], Some((14, 8))),
-            ([0, 0, 3, 2], Some((2, 7))),
+            ([4097, 2, 3, 0], Some((2, 7))),
+            ([1, 2, 4097, 2], Some((14, 8))),
+            ([4097, 0, 3, 2], Some((2, 7))),
             ([1, 1, 4097, 2], Some((2, 9))),
             ([1, 1, 3, 2], Some((14, 10))),
+            ([0, 2, 4, 0], Some((14, 8))),
+            ([0, 2, 4097, 0], Some((14, 8))),
+            ([0, 65535, 0, 2], Some((14, 8))),
+            ([0, 0, 0, 2], Some((14, 10))),
+            ([0, 1, 4097, 2], Some((2, 9))),
         ] {
-            let mut plan = WORDS[..LENGTH].to_vec();
-            plan[7..11].copy_from_slice(&words);
-            assert_eq!(answer(&plan, NUMBERS), refusal, "{words:?}");
+            assert_eq!(answer(&with_clips(words), NUMBERS), refusal, "{words:?}");
         }
         // Later words, a plan that ends behind the ending, and numbers are judged after it.
         let wrong = [&WORDS[..8], &[2]].concat();
@@ -304,6 +324,25 @@ mod tests {
         assert_eq!(answer(&WORDS[..8], 0), Some((1, 8)));
         let parent = [&WORDS[..6], &[1, 1, 2]].concat();
         assert_eq!(answer(&parent, 0), Some((3, 6)));
+    }
+
+    /// Without samples a clip has no poses, but its rate still: two rates and a transition's two.
+    #[test]
+    fn a_clip_may_have_no_samples() {
+        for (words, samples) in [
+            ([0, 0, 3, 1], 3),
+            ([0, 1, 4096, 0], 4096),
+            ([1, 0, 0, 1], 1),
+            ([0, 0, 0, 0], 0),
+            ([0, 1, 0, 1], 0),
+        ] {
+            let plan = with_clips(words);
+            let numbers = 2 + 2 + 8 * 2 * samples;
+            assert_eq!(answer(&plan, numbers), None, "{words:?}");
+            for other in [numbers - 1, numbers + 1, numbers + 16] {
+                assert_eq!(answer(&plan, other), Some((7, 0)), "{words:?}");
+            }
+        }
     }
 
     #[test]

@@ -1,6 +1,7 @@
 //! Random figures. The start takes most of them, and refuses the others for a word.
 
 use super::draft::{Clip, Draft, State, Transition};
+use super::wrong_figure::put_fault;
 use crate::generator::{Generator, SPECIAL};
 
 /// So many pose lines keep a text well below the program's limit.
@@ -92,16 +93,40 @@ fn good(generator: &mut Generator, style: Numbers, joints: u16) -> Draft {
     draft
 }
 
-/// About half of the figures have no stopping clip: these can be put to the Rust too.
+/// Which clips that the Rust has not, stopping and empty ones, may be among a figure's. More than half
+/// of the figures have neither: these are put to the Rust too.
+fn others(generator: &mut Generator) -> (bool, bool) {
+    match generator.below(16) {
+        0..=6 => (false, false),
+        7..=10 => (true, false),
+        11 | 12 => (false, true),
+        _ => (true, true),
+    }
+}
+
 fn clips(generator: &mut Generator, style: Numbers, joints: u16) -> Vec<Clip> {
     let count_of_clips = count(generator, 3, 16).min(MOST_POSES / joints);
-    let endings = generator.pick(&[1, 2, 2]);
-    let clip = |_| Clip {
-        rate: number(generator, style) & positive(style),
-        samples: count(generator, 2, 16).min(MOST_POSES / joints / count_of_clips),
-        ending: below(generator, endings),
+    let (stop, pause) = others(generator);
+    let clip = |_| {
+        let mut clip = Clip {
+            rate: number(generator, style) & positive(style),
+            samples: count(generator, 2, 16).min(MOST_POSES / joints / count_of_clips),
+            ending: u16::from(stop && generator.below(2) == 0),
+        };
+        if pause && generator.below(2) == 0 {
+            put_pause(generator, &mut clip);
+        }
+        clip
     };
     (0..count_of_clips).map(clip).collect()
+}
+
+/// Its rate shows nowhere, so that any will do among sensible numbers too.
+fn put_pause(generator: &mut Generator, clip: &mut Clip) {
+    clip.samples = 0;
+    if generator.below(2) == 0 {
+        clip.rate = generator.pick(&SPECIAL);
+    }
 }
 
 /// How many clip nodes each state has: few, or close to 64 in all.
@@ -235,93 +260,115 @@ pub fn pose(generator: &mut Generator, style: Numbers) -> [u32; 8] {
     words
 }
 
-/// A word at or beyond what is allowed below `limit`, most likely.
-fn odd_word(generator: &mut Generator, limit: usize) -> u16 {
-    let limit = limit as u16;
-    let random = generator.draw() as u16;
-    generator.pick(&[limit, limit + 1, 0, 1, 2, 3, 254, 255, 256, 65535, random])
-}
-
-fn any<'a, T>(generator: &mut Generator, items: &'a mut [T]) -> &'a mut T {
-    let i = generator.below(items.len() as u64) as usize;
-    &mut items[i]
-}
-
-/// What text can say and the start refuses: a count of 0, or a wrong word that is no count.
-fn put_fault(generator: &mut Generator, draft: &mut Draft) {
-    let states = draft.states.len();
-    match generator.below(18) {
-        0 => draft.parents.clear(),
-        1 => draft.clips.clear(),
-        2 => draft.states.clear(),
-        3 => any(generator, &mut draft.clips).samples = 0,
-        4 => any(generator, &mut draft.states).nodes.clear(),
-        5 => draft.parameters = 0,
-        6 => draft.initial = odd_word(generator, states),
-        7 => drop(any(generator, &mut draft.states).nodes.pop()),
-        8 => any(generator, &mut draft.states).nodes.insert(0, [0; 4]),
-        9 | 10 => {
-            let joint = generator.below(draft.parents.len() as u64) as usize;
-            draft.parents[joint] = odd_word(generator, joint);
-        }
-        11 => put_wrong_transition(generator, draft),
-        12 => repeat_input(generator, draft),
-        13..=15 => put_wrong_endings(generator, draft),
-        _ => put_wrong_node(generator, draft),
-    }
-}
-
-/// Some node gets an input that it has already, or that an earlier one has.
-fn repeat_input(generator: &mut Generator, draft: &mut Draft) {
-    let nodes = &mut any(generator, &mut draft.states).nodes;
-    let input = nodes.iter().find(|node| node[0] > 0).map(|node| node[1]);
-    let last = nodes.last_mut().filter(|node| node[0] > 0);
-    if let (Some(input), Some(last)) = (input, last) {
-        last[1 + generator.below(2) as usize] = input;
-    }
-}
-
-/// One clip's, or a few, and then a count among them: what comes first in the plan decides.
-fn put_wrong_endings(generator: &mut Generator, draft: &mut Draft) {
-    for _ in 0..=generator.below(2) {
-        any(generator, &mut draft.clips).ending = odd_word(generator, 2);
-    }
-    if generator.below(3) == 0 {
-        any(generator, &mut draft.clips).samples = 0;
-    }
-}
-
-fn put_wrong_node(generator: &mut Generator, draft: &mut Draft) {
-    let nodes = &mut any(generator, &mut draft.states).nodes;
-    let node = generator.below(nodes.len() as u64) as usize;
-    let word = odd_word(generator, node);
-    *any(generator, &mut nodes[node]) = word;
-}
-
-fn put_wrong_transition(generator: &mut Generator, draft: &mut Draft) {
-    let states = draft.states.len();
-    let transitions = &mut any(generator, &mut draft.states).transitions;
-    if transitions.is_empty() {
-        draft.initial = odd_word(generator, states);
-        return;
-    }
-    let word = odd_word(generator, states);
-    let transition = any(generator, transitions);
-    *any(generator, &mut transition.words) = word;
-}
-
 #[cfg(test)]
 mod tests {
     use super::*;
+    use crate::texts::plan::check;
+
+    fn drafts() -> Vec<Draft> {
+        let mut generator = Generator::new(8);
+        (0..4000).map(|_| accepted(&mut generator)).collect()
+    }
+
+    fn has(draft: &Draft, is: fn(&Clip) -> bool) -> bool {
+        draft.clips.iter().any(is)
+    }
+
+    fn is_empty(clip: &Clip) -> bool {
+        clip.samples == 0
+    }
 
     /// Both players of the reference get enough to do.
     #[test]
-    fn about_half_of_the_figures_have_a_stopping_clip() {
-        let mut generator = Generator::new(8);
-        let drafts = (0..4000).map(|_| accepted(&mut generator));
-        let stops = |draft: &Draft| draft.clips.iter().any(|clip| clip.ending == 1);
-        let count = drafts.filter(stops).count();
-        println!("{count} of 4000");
-        assert!((1600..=2400).contains(&count), "{count} of 4000");
+    fn most_figures_are_the_rusts() {
+        let drafts = drafts();
+        let count = |is: fn(&Draft) -> bool| drafts.iter().filter(|draft| is(draft)).count();
+        let rusts = count(|draft| !has(draft, |clip| is_empty(clip) || clip.ending == 1));
+        let stopping = count(|draft| has(draft, |clip| clip.ending == 1));
+        let empty = count(|draft| has(draft, is_empty));
+        let counts = [rusts, stopping, empty];
+        assert!((2100..=2500).contains(&rusts), "{counts:?}");
+        assert!((1000..=1600).contains(&stopping), "{counts:?}");
+        assert!((700..=1100).contains(&empty), "{counts:?}");
+    }
+
+    /// Whether the clip that a node plays is empty, where it plays one.
+    fn pause(draft: &Draft, node: [u16; 4]) -> Option<bool> {
+        let clip = draft.clips.get(usize::from(node[1]))?;
+        (node[0] == 0).then_some(is_empty(clip))
+    }
+
+    /// Whether a node of this kind has such inputs.
+    fn joins(draft: &Draft, kind: u16, inputs: [Option<bool>; 2]) -> bool {
+        draft.states.iter().any(|state| {
+            let input = |number: u16| pause(draft, state.nodes[usize::from(number)]);
+            let mut nodes = state.nodes.iter();
+            nodes.any(|&[k, a, b, _]| k == kind && [input(a), input(b)] == inputs)
+        })
+    }
+
+    /// Whether a state shows nothing but an empty clip.
+    fn is_pause(draft: &Draft, state: usize) -> bool {
+        let nodes = &draft.states[state].nodes;
+        nodes.len() == 1 && pause(draft, nodes[0]) == Some(true)
+    }
+
+    fn has_pause(draft: &Draft) -> bool {
+        (0..draft.states.len()).any(|state| is_pause(draft, state))
+    }
+
+    /// Whether a transition goes between a state that is a pause and one that is not.
+    fn goes(draft: &Draft, into: bool) -> bool {
+        let leads = |(number, state): (usize, &State)| {
+            let targets = state.transitions.iter().map(|t| usize::from(t.words[2]));
+            let is_other = |target: usize| is_pause(draft, target) == into;
+            is_pause(draft, number) != into && targets.into_iter().any(is_other)
+        };
+        draft.states.iter().enumerate().any(leads)
+    }
+
+    fn has_rate(draft: &Draft, is: fn(f32) -> bool) -> bool {
+        let mut clips = draft.clips.iter().filter(|clip| is_empty(clip));
+        clips.any(|clip| is(f32::from_bits(clip.rate)))
+    }
+
+    type Situation = (&'static str, fn(&Draft) -> bool);
+
+    const EMPTY: Option<bool> = Some(true);
+    const SAMPLED: Option<bool> = Some(false);
+
+    const SITUATIONS: [Situation; 16] = [
+        ("one joint", |d| d.parents.len() == 1 && has_pause(d)),
+        ("33 joints", |d| d.parents.len() > 32 && has_pause(d)),
+        ("lerp from", |d| joins(d, 1, [EMPTY, SAMPLED])),
+        ("lerp to", |d| joins(d, 1, [SAMPLED, EMPTY])),
+        ("lerp of two", |d| joins(d, 1, [EMPTY; 2])),
+        ("additive to", |d| joins(d, 2, [EMPTY, SAMPLED])),
+        ("additive of", |d| joins(d, 2, [SAMPLED, EMPTY])),
+        ("additive of two", |d| joins(d, 2, [EMPTY; 2])),
+        ("between", |d| {
+            let mut three = d.clips.windows(3);
+            three.any(|three| [0, 1, 2].map(|i| is_empty(&three[i])) == [false, true, false])
+        }),
+        ("stopping", |d| {
+            has(d, |clip| is_empty(clip) && clip.ending == 1)
+        }),
+        ("all empty", |d| d.clips.iter().all(is_empty)),
+        ("into", |d| goes(d, true)),
+        ("out of", |d| goes(d, false)),
+        ("rate 0", |d| has_rate(d, |rate| rate == 0.0)),
+        ("rate NaN", |d| has_rate(d, f32::is_nan)),
+        ("rate infinite", |d| has_rate(d, f32::is_infinite)),
+    ];
+
+    /// Each way in which an empty clip is met is met in one of 200 figures at least.
+    #[test]
+    fn empty_clips_are_met_in_all_situations() {
+        let mut drafts = drafts();
+        drafts.retain(|draft| check(&draft.figure()).is_ok());
+        for (name, is) in SITUATIONS {
+            let count = drafts.iter().filter(|draft| is(draft)).count();
+            assert!(count >= 20, "{name}: {count} of {}", drafts.len());
+        }
     }
 }

@@ -18,15 +18,17 @@ const ODD_WORDS: [&str; 9] = [
 ];
 
 /// Lines that a text may have, at the wrong place.
-const ODD_LINES: [&str; 8] = [
+const ODD_LINES: [&str; 10] = [
     "\n",
     "figure,1,1,0,1,0\n",
     "joint,255\n",
     "clip,1,3f800000,0\n",
+    "clip,0,3f800000,1\n",
     "clip,1,3f800000\n",
     "state,1,0\n",
     "node,0,0,0,0\n",
     "go,0,4,0,00000000,3f800000\n",
+    "pose,00000000,00000000,00000000,3f800000,3f800000,00000000,00000000,00000000\n",
 ];
 
 pub fn spoiled(generator: &mut Generator, mut text: Vec<u8>) -> Vec<u8> {

@@ -7,17 +7,12 @@ use mathlib.Core.Path.{ap, _∙_}
 use lib.ListN.{getD}
 use borrow.Fn.Kinds.{In}
 use borrow.Fn.PlainCycle.{Measures, is, falls, and}
-use Rattle.model.specs.Plan.{maxParameters, maxNodes, maxClipNodes, clipCount}
+use Rattle.model.specs.Plan.{maxParameters, maxNodes, maxClipNodes}
 use Rattle.model.specs.Clips.{instanceAt}
 use Rattle.animation.proofs.instance_at.Reads as instance-at-reads
 use Rattle.layout.proofs.node_at.Reads as node-at-reads
-use Rattle.blend_tree.specs.Sampling.{Sized, samplesAt}
 use Rattle.blend_tree.proofs.NodeLaws.{passes, node-small, slot-found, slot-small, NodeRead, is-clip, no-clip, clip-inside, inputs-before, parameter-small}
-use Rattle.blend_tree.proofs.SamplingLaws.{clip-sized, sampled}
 use Rattle.blend_tree.proofs.PoseLaws.{of-clip, of-inputs}
-use Rattle.blend_tree.proofs.sampling.clip_at.Reads as clip-at-reads
-use Rattle.blend_tree.proofs.sampling.clip_position.Reads as clip-position-reads
-use Rattle.blend_tree.proofs.sampling.clip_samples.Reads as clip-samples-reads
 use Rattle.blend_tree.proofs.poses.clip_poses.Reads as clip-poses-reads
 use Rattle.blend_tree.proofs.poses.combine_all.Reads as combine-all-reads
 use Rattle.blend_tree.proofs.poses.node_poses.Reads as reads
@@ -42,12 +37,6 @@ claims t = (
   node-at-reads.Learnt,
   instance-at-reads.Asked,
   instance-at-reads.Learnt,
-  clip-at-reads.Asked,
-  clip-at-reads.Learnt,
-  clip-position-reads.Asked,
-  clip-position-reads.Learnt,
-  clip-samples-reads.Asked,
-  clip-samples-reads.Learnt,
   clip-poses-reads.Asked,
   clip-poses-reads.Learnt,
   node-poses-below t,
@@ -69,7 +58,7 @@ module _ (t : ℕ) where
   small : (c : lts.After-node-at (claims t) (node-poses-at t) reads.Post) → start c .args .node ≤ maxNodes
   small c = let r = start c .pre .1 in node-small (passes (r .0 .0)) (r .0 .1) (r .2)
 
-  -- a clip node's instance and clip are there
+  -- a clip node's instance is there
   instance-there : (c : lts.After-instance-at-arg (claims t) (node-poses-at t) reads.Post)
       → let a = start (c .before .before .before) .args in getD (a .slots .now) (a .node) 0 < maxClipNodes
   instance-there c =
@@ -77,47 +66,23 @@ module _ (t : ℕ) where
       let r = start k .pre .1 in
       slot-small (passes (r .0 .0)) (r .0 .1) (r .2) (r .0 .2) (is-clip _ _ _ (k .node-at .ensures) (c .before .if1 .taken))
 
-  clip-there : (c : lts.After-instance-at (claims t) (node-poses-at t) reads.Post)
-      → let k = c .before .before .before .before in k .node-at .result .a < clipCount (start k .args .plan .now)
-  clip-there c =
-      let i = c .before .before in
-      let k = i .before .before in
-      clip-inside (read k) (is-clip _ _ _ (k .node-at .ensures) (i .if1 .taken))
-
-  clip-at-requires : lts.Need-clip-at-requires (claims t) (node-poses-at t) reads.Post
-  clip-at-requires c κs = (start (c .before .before .before .before) .pre .1 .0 .0, clip-there c)
-
-  sized : (c : lts.After-clip-at (claims t) (node-poses-at t) reads.Post) → Sized (c .clip-at .result)
-  sized c =
-      let i = c .before in
-      clip-sized (start (i .before .before .before .before) .pre .1 .0 .0) (clip-there i) (c .clip-at .ensures)
-
-  clip-position-requires : lts.Need-clip-position-requires (claims t) (node-poses-at t) reads.Post
-  clip-position-requires c κs = sized c
-
-  clip-samples-requires : lts.Need-clip-samples-requires (claims t) (node-poses-at t) reads.Post
-  clip-samples-requires c κs = sized (c .before)
-
   clip-poses-requires : lts.Need-clip-poses-requires (claims t) (node-poses-at t) reads.Post
   clip-poses-requires c κs =
-      let k = c .before .before .before in
-      let i = k .before in
-      let s = start (i .before .before .before .before) in
-      let r = s .pre .1 in
-      (sampled (r .0 .0) (clip-there i) _ (k .clip-at .ensures) (c .before .clip-samples .ensures), r .1)
+      let i = c .before .before .before in
+      let k = i .before .before in
+      let r = start k .pre .1 in
+      (r .0 .0, clip-inside (read k) (is-clip _ _ _ (k .node-at .ensures) (i .if1 .taken)), r .1)
 
   returns : lts.Need-returns (claims t) (node-poses-at t) reads.Post
   returns c j h =
-      let q = c .before .before in
-      let l = q .before .before in
-      let v = l .before in
+      let v = c .before .before in
       let i = v .before .before in
       let k = i .before .before in
       let s = start k in
       let r = s .pre .1 in
       c .clip-poses .ensures j h
-      ∙ of-clip (read k) (s .args .numbers .now) (s .args .parameters .now) (s .args .state .time) (s .args .instances .now) (s .args .joints .first + j) (r .0 .0) (i .if1 .taken)
-      (v .instance-at .ensures ∙ ap (instanceAt (s .args .instances .now)) (slot-found (passes (r .0 .0)) (r .0 .1) (r .2) (r .0 .2))) (l .clip-at .ensures) (q .clip-samples .ensures ∙ ap (samplesAt _) (q .before .clip-position .ensures))
+      ∙ of-clip (read k) (s .args .numbers .now) (s .args .parameters .now) (s .args .state .time) (s .args .instances .now) (s .args .joints .first + j) (i .if1 .taken)
+      (v .instance-at .ensures ∙ ap (instanceAt (s .args .instances .now)) (slot-found (passes (r .0 .0)) (r .0 .1) (r .2) (r .0 .2)))
 
   node-poses-requires : lts.Need-node-poses-requires (claims t) (node-poses-at t) reads.Post
   node-poses-requires c κs =
@@ -159,9 +124,6 @@ pub +node-poses-spec : {M : Type 1} → statement M
     (λ c. omega (arith, small t (c .before .before)))
     (λ c. omega (arith, instance-there t c))
     (λ c κs. instance-there t c)
-    (clip-at-requires t)
-    (clip-position-requires t)
-    (clip-samples-requires t)
     (clip-poses-requires t)
     (returns t)
     (node-poses-requires t)

@@ -1,73 +1,45 @@
--- `blend_tree::poses::clip_poses` meets its contract. Invariant: the lanes below i hold their poses. Assumes nothing.
-use Prim.Native.Nat.{_+_, _*_, _-_, _≤_}
-use native.Mathlib.Omega.{arith}
-use mathlib.Core.Path.{_≡_, _∙_}
-use lib.ListN.{length}
-use Rattle.model.specs.Pose.{lerp}
-use Rattle.animation.specs.Sampling.{poseFrom}
-use Rattle.lanes.proofs.Laws.{done-more}
-use Rattle.blend_tree.specs.Sampling.{poseBetween}
-use Rattle.blend_tree.specs.Blocks.{Filled}
-use Rattle.blend_tree.proofs.SamplingLaws.{samples-small, row-start, row-inside}
+-- `blend_tree::poses::clip_poses` meets its contract: the identity in each lane where the clip has no samples, else the poses between two of them. Assumes
+-- nothing.
+use borrow.Author.Needs.{needs}
+use mathlib.Core.Path.{_∙_}
+use Rattle.blend_tree.specs.Sampling.{Sized}
+use Rattle.blend_tree.proofs.SamplingLaws.{clip-sized, sampled, identity-shown, between-shown}
 use Rattle.blend_tree.proofs.poses.clip_poses.Statement.{statement}
 use Rattle.blend_tree.proofs.poses.clip_poses.Tie as tie
 
-abbrev Inv-loop : tie.InvT-loop
-Inv-loop numbers joints block₀ low high factor i₀ block i =
-    (i ≤ joints .count) × Filled (λ k. lerp (poseFrom numbers (low + 8 * k)) (poseFrom numbers (high + 8 * k)) factor) i block
+returns : tie.Need-returns
+returns c i h =
+    let t = c .before .before in
+    c .identity-poses .ensures i h ∙ identity-shown _ _ _ (t .before .before .clip-at .ensures) _ _ _ (t .if1 .taken)
 
-abbrev μ-loop : tie.MeasureT-loop
-μ-loop numbers joints block₀ low high factor i₀ block i = joints .count - i
+sized : (c : tie.Else1) → Sized (c .before .before .clip-at .result)
+sized c =
+    let k = c .before .before in
+    let p = k .before .before .before .pre in
+    clip-sized (p .0) (p .1) (k .clip-at .ensures) (c .if1 .left)
 
-pose-at-requires : tie.Need-pose-at-requires Inv-loop μ-loop
-pose-at-requires c κs = let p = c .before .pre in omega (arith, samples-small (p .0), p .1 .inside)
+clip-position-requires : tie.Need-clip-position-requires
+clip-position-requires c κs = sized c
 
-pose-at-requires-2 : tie.Need-pose-at-requires-2 Inv-loop μ-loop
-pose-at-requires-2 c κs = let p = c .before .before .pre in omega (arith, samples-small (p .0), p .1 .inside)
+clip-samples-requires : tie.Need-clip-samples-requires
+clip-samples-requires c κs = sized (c .before)
 
--- in a turn both poses are there
-inside : (c : tie.Then1 Inv-loop μ-loop)
-    → let l = c .before .before in
-    let h = l .before in
-    let n = length (h .before .before .before .args .numbers .now) in
-    (h .before .pose-at .result + 8 * l .loop .i + 8 ≤ n) × (h .pose-at2 .result + 8 * l .loop .i + 8 ≤ n)
-inside c =
-    let h = c .before .before .before in
-    let p = h .before .before .before .pre in
-    row-inside (p .0) (p .1) (h .before .pose-at .ensures) (h .pose-at2 .ensures) (c .if1 .taken)
+sampled-poses-requires : tie.Need-sampled-poses-requires
+sampled-poses-requires c κs =
+    let s = c .before in
+    let e = s .before .before in
+    let k = e .before .before in
+    let p = k .before .before .before .pre in
+    (sampled (p .0) (p .1) _ (k .clip-at .ensures) (e .if1 .left) (s .clip-samples .ensures), p .2)
 
-loop-again : tie.Need-loop-again Inv-loop μ-loop
-loop-again c =
-    let t = c .before .before .before in
-    let l = t .before .before in
-    let h = l .before in
-    let s = h .before .before .before in
-    (omega (arith, t .if1 .taken), done-more (c .set-lane .ensures) (λ k r. r ≡ lerp (poseFrom (s .args .numbers .now) (h .before .pose-at .result + 8 * k)) (poseFrom (s .args .numbers .now) (h .pose-at2 .result + 8 * k)) (s .args .samples .factor)) (omega (arith, t .if1 .taken, s .pre .1 .small)) (l .loop .inv .1) (c .before .pose-between .ensures))
-
-returns : tie.Need-returns Inv-loop μ-loop
-unfolding poseBetween
-returns c j less =
-    let l = c .before .before in
-    let h = l .before in
-    let a = h .before .before .before .args in
-    l .loop .inv .1 j (omega arith)
-    ∙ rw (h .before .pose-at .ensures, h .pose-at2 .ensures, row-start (a .layout) (a .samples .first) (a .joints .first) j, row-start (a .layout) (a .samples .second) (a .joints .first) j)
+returns-2 : tie.Need-returns-2
+returns-2 c i h =
+    let s = c .before .before in
+    let e = s .before .before in
+    let k = e .before .before in
+    c .sampled-poses .ensures i h
+    ∙ between-shown _ _ _ (k .clip-at .ensures) _ _ _ (k .before .before .before .pre .0) (e .if1 .left) (s .before .clip-position .ensures) (s .clip-samples .ensures)
 
 pub clip-poses-spec : {M : Type 1} → statement M
 clip-poses-spec =
-    tie.close
-    (tie.spec
-    Inv-loop
-    μ-loop
-    pose-at-requires
-    pose-at-requires-2
-    (λ c. (omega arith, λ k l. absurd (omega arith)))
-    (λ c. omega (arith, inside c))
-    (λ c. omega (arith, inside (c .before)))
-    (λ c. omega (arith, inside (c .before)))
-    (λ c κs. inside (c .before))
-    (λ c κs. omega (arith, c .before .before .if1 .taken, c .before .before .before .before .before .before .before .before .pre .1 .small))
-    (λ c. omega arith)
-    (λ c. omega arith)
-    loop-again
-    returns)
+    tie.close (tie.spec (λ c κs. search needs) (λ c κs. search needs) returns clip-position-requires clip-samples-requires sampled-poses-requires returns-2)

@@ -1,8 +1,10 @@
 -- `blend_tree::synchronize::is_touched` meets its contract: test by test. The inputs of a node that is no clip are nodes. Assumes nothing.
 use borrow.Author.Needs.{needs}
+use borrow.Author.Tests.{not-true, not-false}
 use Prim.Native.Nat.{_<_}
+use native.Mathlib.Omega.{arith}
 use mathlib.Core.Path.{_≡_, sym, _∙_}
-use Rattle.blend_tree.proofs.NodeLaws.{clip-told, is-clip, no-clip, inputs-inside}
+use Rattle.blend_tree.proofs.NodeLaws.{inputs-inside}
 use Rattle.blend_tree.proofs.SynchronizeLaws.{lerp-no-clip, other-untouched, lerp-touched}
 use Rattle.blend_tree.proofs.synchronize.is_touched.Statement.{statement}
 use Rattle.blend_tree.proofs.synchronize.is_touched.Tie as tie
@@ -11,36 +13,38 @@ inputs : (n : tie.After-node-at) → let here = n .before .before .args .here in
 inputs n h =
     let p = n .before .before .pre in
     let e = n .node-at .ensures in
-    inputs-inside (record { passes = p .0; state = p .1; below = p .2; found = e }) (lerp-no-clip _ _ _ e h)
-
-node-at-requires-2 : tie.Need-node-at-requires-2
-node-at-requires-2 c κs =
-    let n = c .before .before in
-    let p = n .before .before .pre in
-    (p .0, p .1, inputs n (c .if1 .left) .0)
-
-node-at-requires-3 : tie.Need-node-at-requires-3
-node-at-requires-3 c κs =
-    let l = c .before .before .before in
-    let n = l .before .before in
-    let p = n .before .before .pre in
-    (p .0, p .1, inputs n (l .if1 .left) .1)
+    inputs-inside (record { passes = p .0; state = p .2; below = p .3; found = e }) (lerp-no-clip _ _ _ e h)
 
 returns : tie.Need-returns
 returns c = other-untouched _ _ _ (c .before .before .node-at .ensures) (c .if1 .taken)
 
+plays-samples-requires : tie.Need-plays-samples-requires
+plays-samples-requires c κs =
+    let n = c .before .before in
+    let p = n .before .before .pre in
+    (p .0, p .1, p .2, omega (arith, inputs n (c .if1 .left)))
+
 returns-2 : tie.Need-returns-2
 returns-2 c =
-    let l = c .before .before .before in
-    sym (lerp-touched _ _ _ (l .before .before .node-at .ensures) (l .if1 .left) ∙ rw (no-clip _ _ _ (c .before .before .node-at2 .ensures) (c .if2 .taken)))
+    let a = c .before in
+    let l = a .before in
+    sym (lerp-touched _ _ _ (l .before .before .node-at .ensures) (l .if1 .left) ∙ rw (sym (a .plays-samples .ensures) ∙ not-true _ (c .if2 .taken)))
+
+plays-samples-requires-2 : tie.Need-plays-samples-requires-2
+plays-samples-requires-2 c κs =
+    let l = c .before .before in
+    let n = l .before .before in
+    let p = n .before .before .pre in
+    (p .0, p .1, p .2, omega (arith, inputs n (l .if1 .left)))
 
 returns-3 : tie.Need-returns-3
 returns-3 c =
-    let a = c .before .before in
-    let l = a .before .before .before in
+    let b = c .before in
+    let a = b .before in
+    let l = a .before in
     sym
     (lerp-touched _ _ _ (l .before .before .node-at .ensures) (l .if1 .left)
-    ∙ rw (is-clip _ _ _ (a .before .before .node-at2 .ensures) (a .if2 .left), clip-told _ _ _ (c .before .node-at3 .ensures)))
+    ∙ rw (sym (a .plays-samples .ensures) ∙ not-false _ (b .if2 .left), c .plays-samples2 .ensures))
 
 pub is-touched-spec : {M : Type 1} → statement M
-is-touched-spec = tie.close (tie.spec (λ c κs. search needs) returns node-at-requires-2 returns-2 node-at-requires-3 returns-3)
+is-touched-spec = tie.close (tie.spec (λ c κs. search needs) returns plays-samples-requires returns-2 plays-samples-requires-2 returns-3)

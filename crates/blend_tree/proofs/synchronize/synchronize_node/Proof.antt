@@ -28,7 +28,7 @@ known c =
     (inputs-inside r (t .0) .0, t .1, inputs-inside r (t .0) .1, t .2, parameter-small r (t .0))
 
 is-touched-requires : tie.Need-is-touched-requires
-is-touched-requires c κs = let p = c .before .before .pre in (passes (p .0 .0), p .0 .1, p .1)
+is-touched-requires c κs = let p = c .before .before .pre in (passes (p .0 .0), p .0 .0 .found, p .0 .1, p .1)
 
 returns : tie.Need-returns
 unfolding synchronizeNode

@@ -1,6 +1,7 @@
 //! The recorded lists one by one.
 
 mod endings;
+mod pauses;
 mod players;
 mod refused;
 mod transitions;
@@ -28,6 +29,9 @@ pub fn cases() -> Vec<List> {
         endings::clips(),
         endings::joins(),
         endings::transitions(),
+        pauses::clips(),
+        pauses::joins(),
+        pauses::transitions(),
         players::speeds(),
         players::clocks(),
         players::parameters(),

@@ -30,16 +30,21 @@ type Wrong = (&'static str, &'static str, fn(&mut Draft));
 const STARTS: [Wrong; 13] = [
     ("start-no-joints", "2: no joints", |d| d.parents.clear()),
     ("start-no-states", "2: no states", |d| d.states.clear()),
-    ("start-no-samples", "2: no samples", |d| {
-        d.clips[1].samples = 0
-    }),
     ("start-ending", "14: an ending 2", |d| d.clips[0].ending = 2),
     ("start-last-ending", "14: an ending 65535", |d| {
         d.clips[1].ending = 65535
     }),
     (
-        "start-ending-and-count",
-        "2: an N of 0 before an ending 2",
+        "start-pause-ending",
+        "14: an ending 2 of an empty clip",
+        |d| {
+            d.clips[1].samples = 0;
+            d.clips[1].ending = 2
+        },
+    ),
+    (
+        "start-ending-and-pause",
+        "14: an ending 2 behind an empty clip",
         |d| {
             d.clips[0].samples = 0;
             d.clips[1].ending = 2
@@ -90,11 +95,15 @@ pub fn unread_figures() -> Vec<List> {
     let good = text(&calls());
     let longest = long_text(&mut Generator::new(1), LONGEST);
     let too_long = longest.clone() + "\n";
+    let too_many = BLEND.replace("clip,1,4", "clip,4097,4");
+    let a_pose = BLEND.replace("clip,1,4", "clip,0,4");
     let list = |name: &str, purpose, figure: &str| List::raw(name, purpose, figure, good.clone());
     let one_frame = text(&[Call::frame(0.5, 1024)]);
     vec![
         list("figure-empty", "11: no text at all", ""),
         list("figure-cut", "11: no LF at the end", BLEND.trim_end()),
+        list("figure-samples", "11: 4,097 samples", &too_many),
+        list("figure-pose", "11: a pose without a sample", &a_pose),
         list("figure-too-long", "13: 65,537 bytes", &too_long),
         List::raw(
             "figure-longest",

@@ -1,0 +1,34 @@
+-- A node that plays samples is a clip node whose clip has some. One that synchronising touches is a lerp node, and both its inputs are clip nodes.
+use Prim.Native.Nat.{ℕ}
+use mathlib.Core.Path.{_≡_}
+use mathlib.Core.Bool.{true, false, _&&_}
+use mathlib.Core.List.{List}
+use borrow.Author.Tests.{eqb-true, eqb-false}
+use Rattle.model.specs.Plan.{sampleCount, isEmpty, kind, isClip, isLerp, inputA, inputB}
+use Rattle.model.specs.Tree.{playsSamples, isTouched}
+use Rattle.model.specs.Laws.Tests.{and-left, and-right, not-true}
+
+module _ (plan : List ℕ) (s i : ℕ) where
+  pub plays-clip : playsSamples plan s i ≡ true → isClip plan s i ≡ true
+  unfolding playsSamples
+  plays-clip e = and-left _ _ e
+
+  pub plays-some : playsSamples plan s i ≡ true → sampleCount plan (inputA plan s i) ≡ 0 → ⊥
+  unfolding playsSamples isEmpty
+  plays-some e = eqb-false _ _ (not-true _ (and-right (isClip plan s i) _ e))
+
+  module _ (t : isTouched plan s i ≡ true) where
+    pub touched-blends : isClip plan s i ≡ false
+    unfolding isTouched isLerp isClip
+    touched-blends = rw (eqb-true (kind plan s i) 1 (and-left _ _ t))
+
+    both : playsSamples plan s (inputA plan s i) && playsSamples plan s (inputB plan s i) ≡ true
+    unfolding isTouched
+    both = and-right (isLerp plan s i) _ t
+
+module _ (plan : List ℕ) (s i : ℕ) (t : isTouched plan s i ≡ true) where
+  pub touched-a : isClip plan s (inputA plan s i) ≡ true
+  touched-a = plays-clip plan s _ (and-left _ _ (both plan s i t))
+
+  pub touched-b : isClip plan s (inputB plan s i) ≡ true
+  touched-b = plays-clip plan s _ (and-right (playsSamples plan s (inputA plan s i)) _ (both plan s i t))
