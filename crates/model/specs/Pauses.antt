@@ -5,17 +5,19 @@ use native.Mathlib.Omega.{arith}
 use mathlib.Core.Path.{_≡_, refl, ap}
 use mathlib.Core.Logic.{_⊎_, inl, inr}
 use mathlib.Core.Bool.{true, false, _&&_}
-use mathlib.Core.List.{List}
+use mathlib.Core.List.{List, [], _∷_}
 use lib.Ieee.{Float, binary32, toBits}
-use Rattle.model.specs.Numbers.{0f}
+use Rattle.model.specs.declared.FrameKind.the-variants.{Ordinary}
+use Rattle.model.specs.Numbers.{0f, 1f}
 use Rattle.model.specs.Pose.{identityPose, lerp}
 use Rattle.model.specs.Answers.{accepted, refused}
 use Rattle.model.specs.Plan.{maxSamples, sampleCount, isClip, isLerp, inputA, inputB, Rate}
 use Rattle.model.specs.Check.{check}
 use Rattle.model.specs.Clips.{clipPose}
 use Rattle.model.specs.Tree.{playsSamples, isTouched, synchronizeNode}
+use Rattle.model.specs.Run.{startPlayer, Frame, chosenFloats}
 use Rattle.model.specs.Unseen.{Played, Unseen}
-use Rattle.model.specs.Laws.Opened.{check-opened, floats-opened}
+use Rattle.model.specs.Laws.Opened.{check-opened, floats-opened, all-opened}
 use Rattle.model.specs.Laws.Tests.{and-true, and-false}
 use Rattle.model.specs.Laws.Clips.{empty, not-empty, pose-of-empty}
 use Rattle.model.specs.Stopping.{twoClips}
@@ -83,6 +85,18 @@ pub count-judged : CountJudged
 unfolding check-opened
 count-judged =
     record { none = refl; stopping = refl; in-both = refl; poses-left-over = refl; wrong-ending = refl; most = refl; too-many = refl }
+
+-- ---- a whole frame: one joint that plays a pause, whatever both clips' rates and ext are
+
+abbrev Shows : List ℕ → Float → Float → Float → Type 0
+Shows plan rate other ext =
+    let numbers : List Float = rate ∷ other ∷ [] in
+    chosenFloats plan numbers (0 ∷ []) (startPlayer plan numbers) (Frame Ordinary ext 16)
+    ≡ (1f ∷ 0f ∷ 0f ∷ 0f ∷ 0f ∷ 1f ∷ 0f ∷ 0f ∷ 0f ∷ 0f ∷ 1f ∷ 0f ∷ 0f ∷ 0f ∷ 0f ∷ 1f ∷ []) ∷ []
+
+pub pause-shown : (rate other ext : Float) → Shows (twoClips 0 0 0 0) rate other ext × Shows (twoClips 0 1 0 0) rate other ext
+unfolding all-opened
+pause-shown rate other ext = (refl, refl)
 
 -- ---- the list of what is unseen stays: no clip that is played has an unseen rate, with samples or without
 
