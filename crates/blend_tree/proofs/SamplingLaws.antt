@@ -1,17 +1,17 @@
 -- A clip's samples stand among those of all clips, so they are few and their numbers are there; and the pose between two of them is the clip's. Assumes nothing.
 use Prim.Native.Nat.{ℕ, _+_, _*_, _≤_, _<_}
-use native.Mathlib.Nat.{suc-mul, mul-le-mul-right, mod-lt}
+use native.Mathlib.Nat.{suc-mul, mul-le-mul-right}
 use native.Mathlib.Omega.{arith}
 use mathlib.Core.Path.{_≡_, sym}
 use mathlib.Core.List.{List}
 use lib.ListN.{length}
 use lib.Ieee.{Float}
 use Rattle.model.specs.declared.ClipInstance.{ClipInstance}
-use Rattle.model.specs.Numbers.{_*₃₂_, floorIndex, ceilingIndex}
+use Rattle.model.specs.Numbers.{_*₃₂_}
 use Rattle.model.specs.Text.{maxWord}
 use Rattle.model.specs.Plan.{maxJoints, maxClips, maxSamples, jointCount, clipCount, stateCount, sampleCount, samplesBefore, posesAt, number, Rate, numberAt, numbersLength, samplePose}
 use Rattle.model.specs.Pose.{identityPose}
-use Rattle.model.specs.Clips.{firstIndex, secondIndex, localTime, clipPose}
+use Rattle.model.specs.Clips.{localTime, clipPose}
 use Rattle.model.specs.Laws.Totals.{total-below, total-most}
 use Rattle.model.specs.Laws.Clips.{first-below as first-in-clip, second-below as second-in-clip, pose-of-samples}
 use Rattle.model.specs.Laws.Passed.{few-samples, few-joints, few-clips, few-states, few-transitions-before, numbers-fit}
@@ -54,8 +54,8 @@ module _ {plan : List ℕ} {numbers : List Float} {layout : Layout} (ok : Playab
 
 -- a position in n samples
 pub position-below : {n : ℕ} {p : Position} (x : Float) → 0 < n → p ≡ positionIn n x → (p .first < n) × (p .second < n)
-unfolding positionIn firstIndex secondIndex
-position-below x h e = rw e (mod-lt (floorIndex x) h, mod-lt (ceilingIndex x) h)
+unfolding positionIn
+position-below x h e = rw e (first-in-clip _ x h, second-in-clip _ x h)
 
 -- ---- samples of a clip
 
@@ -66,11 +66,11 @@ module _ {numbers : List Float} {layout : Layout} {p : Position} (s : Sampled nu
 
   first-below : p .first < all
   unfolding clipOf samplesAt samplesBefore
-  first-below = rw (s .found) (total-below (sampleCount (s .plan)) (clipCount (s .plan)) (s .c) _ (s .clip) (first-in-clip (s .plan) (s .c) (s .position) (s .some)))
+  first-below = rw (s .found) (total-below (sampleCount (s .plan)) (clipCount (s .plan)) (s .c) _ (s .clip) (first-in-clip _ (s .position) (s .some)))
 
   second-below : p .second < all
   unfolding clipOf samplesAt samplesBefore
-  second-below = rw (s .found) (total-below (sampleCount (s .plan)) (clipCount (s .plan)) (s .c) _ (s .clip) (second-in-clip (s .plan) (s .c) (s .position) (s .some)))
+  second-below = rw (s .found) (total-below (sampleCount (s .plan)) (clipCount (s .plan)) (s .c) _ (s .clip) (second-in-clip _ (s .position) (s .some)))
 
   all-few : all ≤ maxClips * maxSamples
   unfolding samplesBefore

@@ -1,4 +1,4 @@
--- A clip has samples or not, and what it shows in either case.
+-- Indices are those of samples, where there are some. A clip has samples or not, and what it shows in either case.
 use Prim.Native.Nat.{ℕ, _<_}
 use native.Mathlib.Nat.{mod-lt}
 use native.Mathlib.Omega.{arith}
@@ -11,6 +11,15 @@ use Rattle.model.specs.Pose.{identityPose, lerp}
 use Rattle.model.specs.Plan.{sampleCount, isEmpty, isStopping, samplePose}
 use Rattle.model.specs.Clips.{firstIndex, secondIndex, factor, sampledPosition, poseAt}
 
+module _ (n : ℕ) (position : Float) (some : 0 < n) where
+  pub first-below : firstIndex n position < n
+  unfolding firstIndex
+  first-below = mod-lt _ some
+
+  pub second-below : secondIndex n position < n
+  unfolding secondIndex
+  second-below = mod-lt _ some
+
 module _ (plan : List ℕ) (c : ℕ) where
   pub empty : sampleCount plan c ≡ 0 → isEmpty plan c ≡ true
   unfolding isEmpty
@@ -19,16 +28,6 @@ module _ (plan : List ℕ) (c : ℕ) where
   pub not-empty : 0 < sampleCount plan c → isEmpty plan c ≡ false
   unfolding isEmpty
   not-empty h = ne-eqb (sampleCount plan c) 0 (λ e. omega arith)
-
-  -- its indices are those of samples
-  module _ (position : Float) (some : 0 < sampleCount plan c) where
-    pub first-below : firstIndex (sampleCount plan c) position < sampleCount plan c
-    unfolding firstIndex
-    first-below = mod-lt _ some
-
-    pub second-below : secondIndex (sampleCount plan c) position < sampleCount plan c
-    unfolding secondIndex
-    second-below = mod-lt _ some
 
   module _ (numbers : List Float) (j : ℕ) (position : Float) where
     pub pose-of-empty : sampleCount plan c ≡ 0 → poseAt plan numbers c j position ≡ identityPose

@@ -79,4 +79,4 @@ module _ (plan chosen : List ℕ) (a b : List Float) (ok : check plan (length a)
         at-same (suc n) e x =
             let some : 0 < sampleCount plan c = omega arith in
             let at = sampledPosition (isStopping plan c) (sampleCount plan c) x in
-            rw (pose-of-samples plan c a j x some, pose-of-samples plan c b j x some, sample-same (firstIndex (sampleCount plan c) at) (first-below plan c at some), sample-same (secondIndex (sampleCount plan c) at) (second-below plan c at some))
+            rw (pose-of-samples plan c a j x some, pose-of-samples plan c b j x some, sample-same (firstIndex (sampleCount plan c) at) (first-below _ at some), sample-same (secondIndex (sampleCount plan c) at) (second-below _ at some))
