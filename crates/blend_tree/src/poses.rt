@@ -65,6 +65,7 @@ pub fn combine_all(
     }
 }
 
+// The identity in each lane.
 fn identity_poses(count: usize, block: &mut [f32; BLOCK_FLOATS])
     requires { ⌜ count ≤ blockSize ⌝ }
     ensures { λ _. ⌜ Filled (λ i. identityPose) count (now (block .exit)) ⌝ }
@@ -99,7 +100,7 @@ fn sampled_poses(
     }
 }
 
-// By an instance of clip c. A clip without samples shows the identity itself, not a lerp of it.
+// What an instance of clip c shows: without samples the identity itself, not a lerp of it.
 fn clip_poses(
     plan: &[u16],
     numbers: &[f32],

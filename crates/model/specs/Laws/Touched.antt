@@ -17,18 +17,17 @@ module _ (plan : List ℕ) (s i : ℕ) where
   unfolding playsSamples isEmpty
   plays-some e = eqb-false _ _ (not-true _ (and-right (isClip plan s i) _ e))
 
-  module _ (t : isTouched plan s i ≡ true) where
-    pub touched-blends : isClip plan s i ≡ false
-    unfolding isTouched isLerp isClip
-    touched-blends = rw (eqb-true (kind plan s i) 1 (and-left _ _ t))
-
-    both : playsSamples plan s (inputA plan s i) && playsSamples plan s (inputB plan s i) ≡ true
-    unfolding isTouched
-    both = and-right (isLerp plan s i) _ t
-
 module _ (plan : List ℕ) (s i : ℕ) (t : isTouched plan s i ≡ true) where
+  pub touched-blends : isClip plan s i ≡ false
+  unfolding isTouched isLerp isClip
+  touched-blends = rw (eqb-true (kind plan s i) 1 (and-left _ _ t))
+
+  both : playsSamples plan s (inputA plan s i) && playsSamples plan s (inputB plan s i) ≡ true
+  unfolding isTouched
+  both = and-right (isLerp plan s i) _ t
+
   pub touched-a : isClip plan s (inputA plan s i) ≡ true
-  touched-a = plays-clip plan s _ (and-left _ _ (both plan s i t))
+  touched-a = plays-clip plan s _ (and-left _ _ both)
 
   pub touched-b : isClip plan s (inputB plan s i) ≡ true
-  touched-b = plays-clip plan s _ (and-right (playsSamples plan s (inputA plan s i)) _ (both plan s i t))
+  touched-b = plays-clip plan s _ (and-right (playsSamples plan s (inputA plan s i)) _ both)
