@@ -70,7 +70,7 @@ pub struct Clip {
 
 /// A figure before it is written down as plan and numbers, text, or the Rust's definitions.
 pub struct Draft {
-    pub parents: Vec<Option<u8>>,
+    pub parents: Vec<Option<u16>>,
     pub clips: Vec<Clip>,
     pub states: Vec<State>,
 }
@@ -144,12 +144,22 @@ impl Draft {
             goes: goes(size, number),
         };
         Draft {
-            parents: (0..size.joints as u8)
+            parents: (0..size.joints as u16)
                 .map(|joint| joint.checked_sub(1).map(|j| j / 2))
                 .collect(),
             clips: (0..clips).map(clip).collect(),
             states: (0..size.states).map(state).collect(),
         }
+    }
+
+    /// A parent's word: the Rust's own 255 for a root as long as it can play the figure.
+    fn parent_word(&self, parent: Option<u16>) -> u16 {
+        let root = if self.parents.len() <= 64 {
+            255
+        } else {
+            65_535
+        };
+        parent.unwrap_or(root)
     }
 
     fn header(&self) -> [u16; 5] {
@@ -165,11 +175,7 @@ impl Draft {
 
     pub fn plan(&self) -> Vec<u16> {
         let mut plan = self.header().to_vec();
-        plan.extend(
-            self.parents
-                .iter()
-                .map(|parent| u16::from(parent.unwrap_or(255))),
-        );
+        plan.extend(self.parents.iter().map(|parent| self.parent_word(*parent)));
         let clips = self.clips.iter();
         plan.extend(clips.flat_map(|clip| [clip.samples.len() as u16, clip.ending]));
         for state in &self.states {
@@ -206,7 +212,10 @@ impl Draft {
         let [joints, clips, parameters, states, initial] = self.header();
         let mut text = format!("figure,{joints},{clips},{parameters},{states},{initial}\n");
         for parent in &self.parents {
-            line(&mut text, format_args!("joint,{}", parent.unwrap_or(255)));
+            line(
+                &mut text,
+                format_args!("joint,{}", self.parent_word(*parent)),
+            );
         }
         for clip in &self.clips {
             clip.write(&mut text);

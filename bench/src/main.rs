@@ -1,6 +1,7 @@
 //! Measures a frame of the archive and of the Rust that it ports, in one process on the same figures.
 //!
 //!     bench [MILLISECONDS]      time for each row (default 900)
+//!     bench text                writes the largest text that is read, a figure of 400 joints, and measures nothing
 //!
 //! Prints tables in markdown. Before and after a row is measured both must show the same bits, where
 //! the Rust can play the figure.
@@ -184,6 +185,49 @@ fn endings(time: Duration) {
     }
 }
 
+/// Nanoseconds of a frame of the archive alone, and of its check; how many words the plan has.
+fn measure_alone(size: Size, time: Duration) -> (f64, f64, usize) {
+    let mut archive = Archive::new(&Draft::new(size));
+    archive.play(DELTA, EXT);
+    let mut frame = Timer::new(|| archive.play(DELTA, EXT));
+    let mut check = Timer::new(|| archive.check());
+    rounds(time, || {
+        frame.batch(|| archive.play(black_box(DELTA), black_box(EXT)));
+        check.batch(|| archive.check());
+    });
+    assert_eq!(archive.in_transition(), size.moves);
+    (frame.least, check.least, archive.plan.len())
+}
+
+/// The Rust has at most 64 joints, so this is the archive alone.
+fn many_joints(time: Duration) {
+    println!("\n### Many joints (3 nodes)\n");
+    print!("| joints | plan words | idle ns | a joint ");
+    println!("| in a transition ns | a joint | check ns |");
+    println!("|---:|---:|---:|---:|---:|---:|---:|");
+    for joints in [64, 100, 200, 400] {
+        let size = Size::new(joints, 3);
+        let moving = Size {
+            states: 2,
+            moves: true,
+            ..size
+        };
+        let (idle, check, words) = measure_alone(size, time);
+        let (running, ..) = measure_alone(moving, time);
+        let [idle_each, running_each] = [idle, running].map(|all| all / joints as f64);
+        print!("| {joints} | {words} | {idle:.0} | {idle_each:.1} ");
+        println!("| {running:.0} | {running_each:.1} | {check:.0} |");
+    }
+}
+
+/// As many joints as there can be, and as many samples as a text for the program then has room for.
+fn largest_text() -> Size {
+    Size {
+        samples: 1,
+        ..Size::new(400, 3)
+    }
+}
+
 fn texts(time: Duration) {
     println!("\n### Reading text\n");
     println!("| bytes | ns | MB/s |");
@@ -196,7 +240,7 @@ fn texts(time: Duration) {
         samples: 1,
         ..Size::new(1, 1)
     };
-    for size in [small, large] {
+    for size in [small, large, largest_text()] {
         let draft = Draft::new(size);
         let mut text = Text::new(draft.text().into_bytes());
         assert!(text.reads_as(&draft), "the text reads as another figure");
@@ -253,16 +297,19 @@ fn growths(time: Duration) {
 }
 
 fn main() {
-    let time = match std::env::args().nth(1).map(|word| word.parse()) {
-        None => Duration::from_millis(900),
-        Some(Ok(milliseconds)) => Duration::from_millis(milliseconds),
-        Some(Err(_)) => {
-            eprintln!("usage: bench [MILLISECONDS]");
-            std::process::exit(2);
-        }
+    let word = std::env::args().nth(1).unwrap_or("900".into());
+    if word == "text" {
+        print!("{}", Draft::new(largest_text()).text());
+        return;
+    }
+    let Ok(milliseconds) = word.parse() else {
+        eprintln!("usage: bench [MILLISECONDS | text]");
+        std::process::exit(2);
     };
+    let time = Duration::from_millis(milliseconds);
     sizes(time);
     growths(time);
+    many_joints(time);
     endings(time);
     texts(time);
 }

@@ -102,9 +102,11 @@ fn pose(pose: &[f32; 8]) -> QVTransform {
 }
 
 fn skeleton(draft: &Draft) -> Skeleton {
-    let joint = |(number, parent): (usize, &Option<u8>)| Joint {
+    let joint = |(number, parent): (usize, &Option<u16>)| Joint {
         name: name(number),
-        parent_index: parent.unwrap_or(255),
+        parent_index: parent.map_or(255, |parent| {
+            u8::try_from(parent).expect("at most 64 joints")
+        }),
         inverse_bind_pose: Matrix4::identity(),
     };
     Skeleton {

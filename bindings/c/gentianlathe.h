@@ -31,6 +31,13 @@
 extern "C" {
 #endif
 
+/*
+ * For hosts that build plans: the most joints of a figure, and the parent that marks a root. 255 marks one too, but
+ * only in a figure of at most 64 joints; in a larger one it is joint 255.
+ */
+#define GENTIANLATHE_MAX_JOINTS 400
+#define GENTIANLATHE_ROOT 65535
+
 /* A player has 32 parameters and 64 clip instances of three floats each; a matrix has 16 floats. */
 #define GENTIANLATHE_PARAMETERS 32
 #define GENTIANLATHE_INSTANCES 64
@@ -72,7 +79,7 @@ typedef char gentianlathe_player_has_952_bytes[sizeof(gentianlathe_player) == 95
  *   number and what is wrong, as docs/FORMAT.md has it
  *   1   the plan ends too early (place: its length)
  *   2   a count or the initial state is out of range, or there is a 65th clip node (place: that word; the node's kind)
- *   3   a parent is neither 255 nor an earlier joint (place: that word)
+ *   3   a parent is neither 65535 (a root; with J at most 64 also 255) nor an earlier joint (place: that word)
  *   4   a node's word is wrong, or nothing uses a node (place: that word; K of the state)
  *   5   a transition's parameter, operator or target is wrong (place: that word)
  *   14  a clip's ending is neither 0 (loop) nor 1 (stop) (place: that word)
@@ -159,7 +166,7 @@ gentianlathe_text_answer gentianlathe_read_text(const uint8_t *text, size_t text
 /* Bytes of the archive's player. Hold sizeof(gentianlathe_player) to it before the first call. */
 size_t gentianlathe_player_size(void);
 
-/* Floats that a frame of this plan writes, 16 a joint by the plan's first word; 0 for an empty plan. */
+/* Floats that a frame of this plan writes, 16 a joint by the plan's first word, 6,400 for 400 joints; 0 for an empty plan. */
 size_t gentianlathe_output_length(const uint16_t *plan, size_t plan_length);
 
 /* Words of the longest plan that a text can have. */

@@ -2,7 +2,7 @@
 [0] = "accepted",
 [1] = "the plan ends too early (place: its length)",
 [2] = "a count or the initial state is out of range, or there is a 65th clip node (place: that word; the node's kind)",
-[3] = "a parent is neither 255 nor an earlier joint (place: that word)",
+[3] = "a parent is neither 65535 (a root; with J at most 64 also 255) nor an earlier joint (place: that word)",
 [4] = "a node's word is wrong, or nothing uses a node (place: that word; K of the state)",
 [5] = "a transition's parameter, operator or target is wrong (place: that word)",
 [14] = "a clip's ending is neither 0 (loop) nor 1 (stop) (place: that word)",

@@ -72,7 +72,7 @@ impl Figure {
         self.fresh.clone()
     }
 
-    /// How many joints the figure has: 1 to 64.
+    /// How many joints the figure has: 1 to [`MAX_JOINTS`](crate::MAX_JOINTS).
     pub fn joints(&self) -> usize {
         self.plan.first().copied().map_or(0, usize::from)
     }

@@ -58,3 +58,10 @@ pub use sys::PARAMETERS;
 
 /// How many floats a joint's matrix has.
 pub const MATRIX_FLOATS: usize = 16;
+
+/// The most joints that a figure has.
+pub const MAX_JOINTS: usize = 400;
+
+/// The parent that marks a root in a plan. 255 marks one too, but only in a figure of at most 64 joints; in a
+/// larger one it is joint 255.
+pub const ROOT: u16 = 65_535;

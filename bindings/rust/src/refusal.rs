@@ -22,7 +22,7 @@ pub enum Refusal {
         /// The word of the count, or of the node's kind.
         word: usize,
     },
-    /// 3: a parent is neither 255 nor an earlier joint.
+    /// 3: a parent is neither 65535 (a root; in a figure of at most 64 joints also 255) nor an earlier joint.
     Parent {
         /// The word of the parent; the joint has this number less 5.
         word: usize,
@@ -139,7 +139,7 @@ impl Refusal {
 /// What a word that is out of its range should be.
 fn range(word: usize) -> &'static str {
     match word {
-        0 => "the number of joints must be 1 to 64",
+        0 => "the number of joints must be 1 to 400",
         1 => "the number of clips must be 1 to 16",
         2 => "the number of parameters must be 0 to 32",
         3 => "the number of states must be 1 to 16",
@@ -157,7 +157,10 @@ fn wrong_word(refusal: Refusal, word: usize) -> String {
         Refusal::Count { .. } => format!(" is out of range: {}", range(word)),
         Refusal::Parent { .. } => {
             let joint = word.saturating_sub(HEADER);
-            format!(", the parent of joint {joint}, is neither 255 nor an earlier joint")
+            format!(
+                ", the parent of joint {joint}, is neither an earlier joint nor 65535, which marks a root \
+                 (255 marks one only in a figure of at most 64 joints)"
+            )
         }
         Refusal::Node { .. } => {
             " is wrong in a node, or counts nodes of which one is not used".into()

@@ -3,7 +3,7 @@
 mod common;
 
 use common::{bits, seen};
-use gentianlathe::{ClipInstance, Figure, Player, PlayerParts};
+use gentianlathe::{ClipInstance, Figure, Player, PlayerParts, ROOT};
 use std::f32::consts::FRAC_1_SQRT_2;
 
 const IDENTITY: [f32; 16] = [
@@ -29,7 +29,7 @@ fn shown(figure: &Figure, player: &mut Player) -> Vec<f32> {
 fn parents(joints: u16) -> Vec<u16> {
     (0..joints)
         .map(|joint| match joint % 3 {
-            0 => 255,
+            0 => ROOT,
             _ => joint - 1,
         })
         .collect()
@@ -46,7 +46,7 @@ fn a_pause_shows_the_identity() {
         f64::NEG_INFINITY,
         f64::NAN,
     ];
-    for (joints, ending) in [(1, 0), (1, 1), (40, 0), (40, 1), (64, 0)] {
+    for (joints, ending) in [(1, 0), (1, 1), (40, 0), (40, 1), (64, 0), (400, 1)] {
         for rate in [1.0, 0.0, -1.0, f32::INFINITY, f32::NAN] {
             let words = plan(&parents(joints), &[[0, ending]], 0, &[&[1, 0, 0, 0, 0, 0]]);
             let figure = Figure::new(words, vec![rate]).expect("its rate is its only number");
@@ -239,7 +239,7 @@ const RIGHT: Turned = [4.0, FRAC_1_SQRT_2, -FRAC_1_SQRT_2];
 /// Roots alone. Clip 0 has one sample, and rate 0, so that its factor is always 0; clip 1 is a pause.
 fn with_a_sign(joints: usize, transitions: &[f32], states: &[&[u16]]) -> Figure {
     let poses = [RIGHT[0], 0.0, 0.0, 1.0, RIGHT[1], 0.0, 0.0, RIGHT[2]].repeat(joints);
-    let words = plan(&vec![255; joints], &[[1, 0], [0, 0]], 1, states);
+    let words = plan(&vec![ROOT; joints], &[[1, 0], [0, 0]], 1, states);
     Figure::new(words, [&[0.0, 1.0], transitions, &poses].concat()).expect("a sign and a pause")
 }
 

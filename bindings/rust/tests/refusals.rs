@@ -42,7 +42,7 @@ fn one_the_plan_ends() {
 fn two_a_count() {
     let header = [
         (0, 0),
-        (0, 65),
+        (0, 401),
         (1, 0),
         (1, 17),
         (2, 33),
@@ -97,7 +97,7 @@ fn two_a_65th_clip_node() {
 
 #[test]
 fn three_a_parent() {
-    for (word, value) in [(5, 0), (6, 1), (6, 254), (6, 256)] {
+    for (word, value) in [(5, 0), (6, 1), (6, 254), (6, 256), (6, 65534)] {
         let text = format!(
             "word {word} of the plan, the parent of joint {}, is neither",
             word - 5
@@ -284,7 +284,7 @@ fn eleven_a_line() {
         "one too many",
     );
     expect(
-        Figure::from_text(b"figure,65,1,0,1,0\n").expect_err("65 joints"),
+        Figure::from_text(b"figure,401,1,0,1,0\n").expect_err("401 joints"),
         11,
         1,
         "a count above its limit",
@@ -328,7 +328,7 @@ fn twelve_the_slices() {
 
 #[test]
 fn sizes() {
-    assert_eq!(most_words(), 2885);
+    assert_eq!(most_words(), 3221);
     for length in [0, 8, 9, 65_536, usize::MAX] {
         assert_eq!(most_numbers(length), length / 9);
     }

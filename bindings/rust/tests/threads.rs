@@ -3,7 +3,7 @@
 mod common;
 
 use common::{random_figure, seen, Random};
-use gentianlathe::{Figure, Player, PlayerParts, Refusal};
+use gentianlathe::{Figure, Player, PlayerParts, Refusal, MAX_JOINTS, ROOT};
 use std::thread;
 
 fn send_and_sync<T: Send + Sync + 'static>() {}
@@ -49,10 +49,10 @@ fn threads_share_a_figure() {
     }
 }
 
-/// 64 joints; clips that loop and stop by turns; two states, each with the deepest tree that 31 nodes can make; a transition between them.
+/// 400 joints in a chain; clips that loop and stop by turns; two states, each with the deepest tree that 31 nodes can make; a transition between them.
 fn deepest() -> Figure {
-    let mut plan = vec![64, 16, 1, 2, 0, 255];
-    plan.extend(0..63);
+    let mut plan = vec![MAX_JOINTS as u16, 16, 1, 2, 0, ROOT];
+    plan.extend(0..MAX_JOINTS as u16 - 1);
     (0..16).for_each(|clip| plan.extend([1, clip % 2]));
     for transition in [&[1, 0, 1, 1][..], &[0]] {
         plan.push(31);
@@ -61,20 +61,20 @@ fn deepest() -> Figure {
         (2..16).for_each(|clip| plan.extend([1 + clip % 2, 14 + clip, clip, 0]));
         plan.extend(transition);
     }
-    Figure::new(plan, vec![1.0; 16 + 2 + 8 * 64 * 16]).expect("a figure")
+    Figure::new(plan, vec![1.0; 16 + 2 + 8 * MAX_JOINTS * 16]).expect("a figure")
 }
 
 #[test]
 fn a_small_stack_will_do() {
-    let figure = deepest();
-    let mut output = vec![0.0; figure.output_len()];
-    let mut player = figure.start();
+    let (plan, numbers) = deepest().into_parts();
     let thread = thread::Builder::new().stack_size(64 * 1024).spawn(move || {
-        let answer = player.frame(&figure, 0.0, &mut output);
-        (answer, player.transition().is_some())
+        let figure = Figure::new(plan, numbers)?;
+        let mut output = vec![0.0; figure.output_len()];
+        let mut player = figure.start();
+        player.frame(&figure, 0.0, &mut output)?;
+        player.page_frame(&figure, 0.0, &mut output)?;
+        Ok(player.transition().is_some())
     });
-    assert_eq!(
-        thread.expect("a thread").join().expect("no panic"),
-        (Ok(()), true)
-    );
+    let begun: Result<bool, Refusal> = thread.expect("a thread").join().expect("no panic");
+    assert_eq!(begun, Ok(true));
 }

@@ -1,4 +1,6 @@
 // Where the words and numbers of a plan stand. No other crate adds up places; what each one is stands in model's Plan.
+use model::limits::BYTE_ROOT;
+use model::limits::MAX_BYTE_ROOT_JOINTS;
 use model::limits::MAX_CLIPS;
 use model::limits::MAX_JOINTS;
 use model::limits::MAX_NODES;
@@ -8,12 +10,11 @@ use model::limits::POSE_FLOATS;
 use model::limits::ROOT;
 ghost use mathlib.Core.Path.{_≡_};
 ghost use mathlib.Core.List.{List};
-ghost use lib.Dec.{eqb};
 ghost use Prim.Native.Nat.{ℕ, _+_, _*_, _<_, _≤_};
 ghost use lib.ListN.{length, getD};
 ghost use lib.Ieee.{nan};
 ghost use Rattle.model.specs.Text.{maxWord};
-ghost use Rattle.model.specs.Plan.{maxJoints, maxClips, maxSamples, root, word, jointCount, clipCount, stateCount};
+ghost use Rattle.model.specs.Plan.{maxJoints, maxClips, maxSamples, isRootWord, word, jointCount, clipCount, stateCount};
 ghost use Rattle.model.specs.Plan.{parentAt, parent, sampleCountAt, sampleCount, isStopping};
 ghost use Rattle.model.specs.Plan.{samplesBefore, number, Rate};
 ghost use Rattle.layout.specs.Layout.{layoutOf, stateLayout, nodeOf, conditionOf, numbersOf};
@@ -114,11 +115,11 @@ pub fn parent(plan: &[u16], j: usize) -> usize
     word_there(plan, PARENTS_AT + j)
 }
 
-// Whether a word that stands for a joint's parent says that there is none.
-pub fn is_root(parent: usize) -> bool
-    ensures { λ r. ⌜ r ≡ eqb parent root ⌝ }
+// Whether a word that stands for the parent of one of so many joints says that there is none.
+pub fn is_root(joints: usize, parent: usize) -> bool
+    ensures { λ r. ⌜ r ≡ isRootWord joints parent ⌝ }
 {
-    parent == ROOT
+    (parent == ROOT) | ((parent == BYTE_ROOT) & (joints <= MAX_BYTE_ROOT_JOINTS))
 }
 
 // Where clip c's sample count stands, behind so many joints' parents. The first state begins where that of one more

@@ -3,7 +3,7 @@ use Prim.Native.Nat.{ℕ, zero, suc, _+_, _*_, _<_}
 use mathlib.Core.Path.{_≡_, refl, ap}
 use mathlib.Core.Bool.{Bool, true, false}
 use mathlib.Core.List.{List, [], _∷_, _++_}
-use lib.ListN.{replicate}
+use lib.ListN.{length, replicate}
 use lib.IntN.{ℤ}
 use lib.Ieee.{Float, nan, inf, fin, binary32, binary64, sub, add, div, neg, toBits, ofBits}
 use lib.Ieee.Exact.{HasValue}
@@ -18,6 +18,7 @@ use Rattle.model.specs.Pose.{toMatrix}
 use Rattle.model.specs.Answers.{accepted, refused}
 use Rattle.model.specs.Clips.{firstIndex, secondIndex, factor, setPlaybackRate}
 use Rattle.model.specs.Tree.{targetLength, synchronizedRate}
+use Rattle.model.specs.Plan.{root}
 use Rattle.model.specs.Check.{check}
 use Rattle.model.specs.Controller.{withState, withTransition, nowAt, elapsed, isEnded, stepFrom, transitionFactor}
 use Rattle.model.specs.Run.{startVerdict, startPlayer, Frame, chosenFloats}
@@ -79,19 +80,19 @@ unfolding floats-opened
 bench =
     record { a = refl; b = refl; c = refl; d = refl; e = (refl, refl, refl); f = (refl, refl, refl); g = (refl, refl, refl); h = (refl, refl); i = (refl, refl); j = refl; k = moved; l = refl }
 
--- ---- unmarked: J 64 passes, 65 is refused
+-- ---- unmarked: the limit of J, moved by document 02's Card 11: '400 joints pass, 401 are refused'
 
--- J roots, one looping clip of one sample, one state of one node; it wants 1 + 8 × J numbers
-unfoldable pub jointsPlan : ℕ → List ℕ
-jointsPlan n = n ∷ 1 ∷ 0 ∷ 1 ∷ 0 ∷ replicate n 255 ++ 1 ∷ 0 ∷ 1 ∷ 0 ∷ 0 ∷ 0 ∷ 0 ∷ 0 ∷ []
+-- joints with these parents, one looping clip of one sample, one state of one node; it wants 1 + 8 × J numbers
+unfoldable pub withParents : List ℕ → List ℕ
+withParents parents = length parents ∷ 1 ∷ 0 ∷ 1 ∷ 0 ∷ parents ++ 1 ∷ 0 ∷ 1 ∷ 0 ∷ 0 ∷ 0 ∷ 0 ∷ 0 ∷ []
 
-pub joints-64 : check (jointsPlan 64) (1 + 8 * 64) ≡ accepted
-unfolding check-opened jointsPlan
-joints-64 = refl
+pub joints-400 : check (withParents (replicate 400 root)) (1 + 8 * 400) ≡ accepted
+unfolding check-opened withParents
+joints-400 = refl
 
-pub joints-65 : (n : ℕ) → check (jointsPlan 65) n ≡ refused 2 0 0
-unfolding check-opened jointsPlan
-joints-65 n = refl
+pub joints-401 : (n : ℕ) → check (withParents (replicate 401 root)) n ≡ refused 2 0 0
+unfolding check-opened withParents
+joints-401 n = refl
 
 -- ---- unmarked: a transition of duration 0 divides 0 by 0 in the frame that starts it, whenever that is
 

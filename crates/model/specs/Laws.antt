@@ -4,6 +4,7 @@ pub mod Table
 pub mod Totals
 pub mod Answers
 pub mod Tests
+pub mod Roots
 pub mod Header
 pub mod Node
 pub mod State

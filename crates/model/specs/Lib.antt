@@ -25,5 +25,6 @@ pub mod BenchText
 pub mod Wrap
 pub mod Stopping
 pub mod Pauses
+pub mod Joints
 pub mod ExactlyOne
 pub mod Unused

@@ -1,10 +1,10 @@
 -- Document 01, "Plan and numbers (anew)": limits, and the places of words, numbers and output floats. Definitions only.
 -- Nothing outside this file works out such a place.
 use Prim.Native.Nat.{ℕ, zero, suc, _+_, _*_}
-use mathlib.Core.Bool.{Bool, cond}
+use mathlib.Core.Bool.{Bool, cond, _&&_, _||_}
 use mathlib.Core.List.{List}
 use lib.ListN.{getD}
-use lib.Dec.{eqb}
+use lib.Dec.{leb, eqb}
 use lib.Ieee.{Float, nan}
 use Rattle.model.specs.declared.Pose.{Pose}
 use Rattle.model.specs.Rotations.{quaternion}
@@ -12,8 +12,9 @@ use Rattle.model.specs.Pose.{vector}
 
 -- ---- limits
 
+-- Card 11: 'J goes to 400'
 abbrev pub maxJoints : ℕ
-maxJoints = 64
+maxJoints = 400
 
 abbrev pub maxClips : ℕ
 maxClips = 16
@@ -36,9 +37,15 @@ maxTransitions = 16
 abbrev pub maxClipNodes : ℕ
 maxClipNodes = 64
 
--- the parent of a 'root'
+-- Card 11: the parent of a 'root', and the one that marks a root too where the joints are so few that none has its number
 abbrev pub root : ℕ
-root = 255
+root = 65535
+
+abbrev pub byteRoot : ℕ
+byteRoot = 255
+
+abbrev pub maxByteRootJoints : ℕ
+maxByteRootJoints = 64
 
 -- ---- the words: header, parents, sample counts with their endings
 
@@ -83,9 +90,12 @@ initialState plan = word plan initialStateAt
 unfoldable pub parent : List ℕ → ℕ → ℕ
 parent plan j = word plan (parentAt j)
 
--- 'root'
+-- Card 11: 'root is 65535; with J at most 64, 255 is a root too'
+unfoldable pub isRootWord : ℕ → ℕ → Bool
+isRootWord joints p = eqb p root || (eqb p byteRoot && leb joints maxByteRootJoints)
+
 unfoldable pub isRoot : List ℕ → ℕ → Bool
-isRoot plan j = eqb (parent plan j) root
+isRoot plan j = isRootWord (jointCount plan) (parent plan j)
 
 -- of a clip: N and its ending
 abbrev pub clipWords : ℕ

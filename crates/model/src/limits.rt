@@ -1,7 +1,7 @@
 // Document 01's limits and sizes, under the names that the definitions in specs/ have (`maxJoints`, ..), and what follows from them. Code has them from here;
 // contracts have the definitions', so a function builds only where the two agree.
 
-pub const MAX_JOINTS: usize = 64;
+pub const MAX_JOINTS: usize = 400;
 
 pub const MAX_CLIPS: usize = 16;
 
@@ -17,8 +17,12 @@ pub const MAX_TRANSITIONS: usize = 16;
 
 pub const MAX_CLIP_NODES: usize = 64;
 
-// The parent of a root.
-pub const ROOT: usize = 255;
+// The parent of a root, and the one that marks a root too in a figure of so few joints.
+pub const ROOT: usize = 65535;
+
+pub const BYTE_ROOT: usize = 255;
+
+pub const MAX_BYTE_ROOT_JOINTS: usize = 64;
 
 // The largest word of a plan and decimal of a text.
 pub const MAX_WORD: usize = 65535;

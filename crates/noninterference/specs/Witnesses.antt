@@ -1,25 +1,27 @@
 -- Demand 3 is not vacuous: whatever calls one lists, an accepted start has a session of them; changing an unseen number, or a value set on an unread
 -- parameter, keeps two figures or calls alike; and accepted figures have unseen numbers of every kind.
-use Prim.Native.Nat.{ℕ}
+use Prim.Native.Nat.{ℕ, _<_}
 use native.Mathlib.Omega.{arith}
 use native.Mathlib.Decide.{ℕ-discrete}
 use mathlib.Core.Path.{_≡_, refl, sym, ap, ap₂, _∙_, subst}
 use mathlib.Core.Logic.{inl}
-use mathlib.Core.Bool.{true, false}
+use mathlib.Core.Bool.{true}
 use mathlib.Core.List.{List, [], _∷_, List·Memᴰ, List·Memᴰ·head}
 use lib.ListN.{length, getD, set, replicate, length-set, length-replicate}
+use lib.Dec.{T}
 use lib.Seq.{getD-set-other}
 use lib.Ieee.{Float, nan}
 use Rattle.model.specs.declared.Player.{Player}
 use Rattle.model.specs.declared.Outcome.{Outcome}
 use Rattle.model.specs.Numbers.{0f}
 use Rattle.model.specs.Answers.{accepted, unlessRefused}
-use Rattle.model.specs.Plan.{Rate, Value, Duration, PoseFloat}
+use Rattle.model.specs.Plan.{root, byteRoot, jointCount, isRoot, Rate, Value, Duration, PoseFloat}
 use Rattle.model.specs.Check.{check}
 use Rattle.model.specs.Controller.{withSpeed, updated, parameterSet, setVerdict, frameVerdict}
 use Rattle.model.specs.Skeleton.{written}
 use Rattle.model.specs.Run.{startVerdict, startPlayer, framePlayer, frameMatrices, Call, Update, Speed, Set, Frame}
 use Rattle.model.specs.Unseen.{Read}
+use Rattle.model.specs.Bench.{withParents}
 use Rattle.model.specs.Unused.{twoStates, unread, unused-unseen}
 use Rattle.model.specs.Laws.Opened.{check-opened}
 use Rattle.noninterference.specs.Alike.{Closed, UnseenAt, AlikeNumbers, AlikeCall, sets}
@@ -89,25 +91,38 @@ unread-alike plan n v w unread = sets n v w (λ read. absurd (read unread))
 
 -- of an unchosen joint: of two roots with joint 0 chosen, joint 1's translation x, at place 9
 unfoldable pub twoRoots : List ℕ
-twoRoots = 2 ∷ 1 ∷ 0 ∷ 1 ∷ 0 ∷ 255 ∷ 255 ∷ 1 ∷ 0 ∷ 1 ∷ 0 ∷ 0 ∷ 0 ∷ 0 ∷ 0 ∷ []
+twoRoots = withParents (replicate 2 byteRoot)
 
 pub two-roots-start : check twoRoots 17 ≡ accepted
-unfolding check-opened twoRoots
+unfolding check-opened withParents twoRoots
 two-roots-start = refl
 
-only-0 : (j : ℕ) → List·Memᴰ j (0 ∷ []) → j ≡ 0
-only-0 j (List·Memᴰ·head e) = e
+only : (k j : ℕ) → List·Memᴰ j (k ∷ []) → j ≡ k
+only k j (List·Memᴰ·head e) = e
+
+-- a root by itself is a closed set
+root-closed : (plan : List ℕ) (k : ℕ) → k < jointCount plan → isRoot plan k ≡ true → Closed plan (k ∷ [])
+root-closed plan k below root = record { are-joints = λ j m. rw (only k j m) below; parents = λ j m h. absurd (subst T (sym root ∙ (rw (only k j m) at h)) tt) }
 
 pub two-roots-closed : Closed twoRoots (0 ∷ [])
-unfolding check-opened twoRoots
-two-roots-closed = record { are-joints = λ j m. rw (only-0 j m) (omega arith); parents = λ j m h. absurd (root (rw (only-0 j m) at h)) }
-  where
-    root : true ≡ false → ⊥
-    root e = let z : _≡_ {A = ℕ} 0 1 = cc in omega arith
+unfolding check-opened withParents twoRoots
+two-roots-closed = root-closed twoRoots 0 (omega arith) refl
 
 pub two-roots-unseen : UnseenAt twoRoots (0 ∷ []) 9
-unfolding check-opened twoRoots
-two-roots-unseen = record { name = PoseFloat 0 0 1 0; in-plan = (omega arith, omega arith, omega arith, omega arith); here = refl; unseen = inl (λ m. absurd (omega (arith, only-0 1 m))) }
+unfolding check-opened withParents twoRoots
+two-roots-unseen = record { name = PoseFloat 0 0 1 0; in-plan = (omega arith, omega arith, omega arith, omega arith); here = refl; unseen = inl (λ m. absurd (omega (arith, only 0 1 m))) }
+
+-- Card 11, 'chosen sets may include any of the 400': of 400 roots (`joints-400`) the last is chosen alone, and joint 0's translation x, at place 1, is unseen
+unfoldable pub fourHundred : List ℕ
+fourHundred = withParents (replicate 400 root)
+
+pub last-of-400-closed : Closed fourHundred (399 ∷ [])
+unfolding check-opened withParents fourHundred
+last-of-400-closed = root-closed fourHundred 399 (omega arith) refl
+
+pub first-of-400-unseen : UnseenAt fourHundred (399 ∷ []) 1
+unfolding check-opened withParents fourHundred
+first-of-400-unseen = record { name = PoseFloat 0 0 0 0; in-plan = (omega arith, omega arith, omega arith, omega arith); here = refl; unseen = inl (λ m. absurd (omega (arith, only 399 0 m))) }
 
 -- of what no reachable state uses, whatever joints are chosen: the rate of `twoStates`' clip 1, the value and the duration of its state 1, and the first
 -- float of clip 1's poses

@@ -90,22 +90,23 @@ pub fn check_header(plan: &[u16]) -> Answer
 }
 
 // No parent, or an earlier joint.
-fn check_parent(plan: &[u16], j: usize) -> Answer
-    requires { ⌜ j ≤ maxWord ⌝ }
+fn check_parent(plan: &[u16], joints: usize, j: usize) -> Answer
+    requires { ⌜ (joints ≡ jointCount (now plan)) × (j ≤ maxWord) ⌝ }
     ensures { λ r. ⌜ values r ≡ checkParent (now (plan .entry)) j ⌝ }
 {
     let at = PARENTS_AT + j;
     let parent = word(plan, at);
-    word_is(plan, 3, at, is_root(parent) | (parent < j))
+    let good = (parent < j) || is_root(joints, parent);
+    word_is(plan, 3, at, good)
 }
 
 pub fn check_parents(plan: &[u16], joints: usize) -> Answer
-    requires { ⌜ joints ≤ maxWord ⌝ }
+    requires { ⌜ (joints ≡ jointCount (now plan)) × (joints ≤ maxWord) ⌝ }
     ensures { λ r. ⌜ values r ≡ each joints (checkParent (now (plan .entry))) ⌝ }
 {
     let mut j = 0;
     while j < joints {
-        let parent = check_parent(plan, j);
+        let parent = check_parent(plan, joints, j);
         let Answer::Accepted = parent else {
             return parent;
         };

@@ -8,7 +8,7 @@ abbrev pub maxDigits : ℕ
 maxDigits = 20
 
 abbrev pub indexDigits : ℕ
-indexDigits = 2
+indexDigits = 3
 
 -- floats of a matrix
 abbrev pub matrixFloats : ℕ

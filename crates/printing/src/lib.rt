@@ -22,7 +22,7 @@ const FLOAT_DIGITS: usize = NUMBER_BYTES - 1;
 
 const MAX_DIGITS: usize = 20;
 
-const INDEX_DIGITS: usize = 2;
+const INDEX_DIGITS: usize = 3;
 
 // How many bytes fields and lines have at the most; specs/Sizes.antt has the same for contracts.
 pub const DECIMAL_SIZE: usize = 1 + MAX_DIGITS;

@@ -18,8 +18,8 @@ use replay_core::put_malformed;
 ghost use Prim.Native.Nat.{_≤_};
 ghost use lib.ListN.{length};
 
-// Some reports are printed at once.
-const BUFFER_SIZE: usize = 8 * MAX_REPORT;
+// Room for the longest report and some others, which are printed at once.
+const BUFFER_SIZE: usize = 2 * MAX_REPORT;
 
 // The bytes below `size`; false where they cannot be written.
 fn write_front(bytes: &[u8], size: usize) -> bool

@@ -6,7 +6,6 @@ use mathlib.Core.List.{List, [], _∷_, _++_, map, append-assoc, append-nil, map
 use native.Mathlib.Omega.{arith}
 use native.Mathlib.Numerals.{add-one}
 use native.Mathlib.Nat.{add-zero}
-use lib.Dec.{eqb}
 use lib.Ieee.{Float}
 use lib.ListN.{length, getD, set, take, drop, length-append, length-map}
 use lib.Seq.{length-take-le, take-all, take-suc, drop-append-add, take-at, drop-at, drop-drop, sets-eq}
@@ -14,7 +13,7 @@ use Rattle.model.specs.declared.Pose.{Pose}
 use Rattle.model.specs.declared.Matrix4.{Matrix4}
 use Rattle.model.specs.Rotations.{identityMatrix, product, floats}
 use Rattle.model.specs.Pose.{toMatrix}
-use Rattle.model.specs.Plan.{root, jointCount, parent, isRoot, outputAt}
+use Rattle.model.specs.Plan.{jointCount, parent, isRoot, outputAt}
 use Rattle.model.specs.Table.{tableTo}
 use Rattle.model.specs.Skeleton.{parentMatrix, jointMatrix, jointMatrices, pageMatrix, flat}
 use Rattle.model.specs.Laws.Table.{table-length}
@@ -92,11 +91,6 @@ read-back (m ∷ ms) (suc p) rest h =
     rw (e, append-assoc (floats m) (flat ms) rest, drop-append-add (floats m) (flat ms ++ rest) (16 * p)) (read-back ms p rest (omega arith))
 
 -- ---- joints
-
--- the code's test of the word that it read
-pub root-told : (plan : List ℕ) (j : ℕ) {p : ℕ} {r : Bool} → p ≡ parent plan j → r ≡ eqb p root → isRoot plan j ≡ r
-unfolding isRoot
-root-told plan j e t = rw (t, e)
 
 cond-else : {A : Type 0} (b : Bool) (x y z : A) → (b ≡ false → y ≡ z) → cond b x y ≡ cond b x z
 cond-else true x y z h = refl

@@ -1,7 +1,6 @@
 // Ports skeleton.rs: the joints' global matrices, written into the caller's buffer; and page matrices.
 use lanes::BLOCK_FLOATS;
 use lanes::lane;
-use layout::is_root;
 use layout::parent;
 use math::product_row;
 use model::Matrix4;
@@ -10,8 +9,8 @@ use model::Row;
 use model::limits::MATRIX_FLOATS;
 use transform::to_matrix;
 ghost use mathlib.Core.Path.{_≡_};
-ghost use mathlib.Core.Bool.{false};
 ghost use Prim.Native.Nat.{suc, _+_, _<_, _≤_};
+ghost use lib.Dec.{leb};
 ghost use lib.ListN.{length, drop};
 ghost use Rattle.model.specs.Rotations.{identityMatrix, floats, product};
 ghost use Rattle.model.specs.Pose.{toMatrix};
@@ -109,18 +108,18 @@ fn set_matrix(buffer: &mut [f32], at: usize, m: Matrix4)
     set_row(buffer, at + 12, r3);
 }
 
-// The parent's matrix is read back from the buffer: parents come first.
+// The parent's matrix is read back from the buffer: parents come first. A parent that is no earlier joint is a root's.
 fn parent_matrix(plan: &[u16], buffer: &[f32], j: usize) -> Matrix4
     requires { ⌜
         (j ≤ maxWord)
         × (parentAt j < length (now plan))
-        × (isRoot (now plan) j ≡ false → parent (now plan) j < j)
+        × (isRoot (now plan) j ≡ leb j (parent (now plan) j))
         × (outputAt j ≤ length (now buffer))
         ⌝ }
     ensures { λ r. ⌜ r ≡ parentIn (now (plan .entry)) (now (buffer .entry)) j ⌝ }
 {
     let p = parent(plan, j);
-    if is_root(p) {
+    if p >= j {
         return identity_matrix();
     }
     matrix_at(buffer, output_at(p))

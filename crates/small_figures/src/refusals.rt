@@ -6,7 +6,9 @@ use controller::start;
 use layout::PARENTS_AT;
 use model::Player;
 use model::Transition;
+use model::limits::BYTE_ROOT;
 use model::limits::MATRIX_FLOATS;
+use model::limits::MAX_BYTE_ROOT_JOINTS;
 use model::limits::MAX_JOINTS;
 use model::limits::MAX_PARAMETERS;
 use model::limits::POSE_FLOATS;
@@ -15,11 +17,13 @@ ghost use Prim.Native.Nat.{_≤_};
 ghost use lib.ListN.{length};
 ghost use Rattle.model.specs.Plan.{outputAt};
 
-// The parent of a root, as a word.
+// The parent of a root of any figure, as a word.
 pub const NO_PARENT: u16 = ROOT as u16;
 
 // A figure of as many joints as there may be, with one clip of one sample and one state of one node.
 const ALL_JOINTS: u16 = MAX_JOINTS as u16;
+
+const FEW_JOINTS: u16 = MAX_BYTE_ROOT_JOINTS as u16;
 
 const CLIPS_AT: usize = PARENTS_AT + MAX_JOINTS;
 
@@ -178,7 +182,20 @@ pub fn joint_limit() {
     plan[CLIPS_AT + 6] = 0;
     plan[CLIPS_AT + 7] = 0;
     let numbers = [1.0f32; ALL_NUMBERS];
-    try_start(b"# joints-64: they pass\n", &plan, &numbers);
+    try_start(b"# joints-400: they pass\n", &plan, &numbers);
     plan[0] = ALL_JOINTS + 1;
-    try_start(b"# joints-65: they do not\n", &plan, &numbers);
+    try_start(b"# joints-401: they do not\n", &plan, &numbers);
+    plan[0] = FEW_JOINTS + 1;
+    plan[PARENTS_AT] = BYTE_ROOT as u16;
+    try_start(
+        b"# byte-root-65: 255 is no root, and no earlier joint\n",
+        &plan,
+        &numbers,
+    );
+    plan[0] = FEW_JOINTS;
+    try_start(
+        b"# byte-root-64: it is a root; the next count is wrong\n",
+        &plan,
+        &numbers,
+    );
 }

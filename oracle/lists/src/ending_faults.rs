@@ -21,7 +21,7 @@ impl Faulty<'_> {
             }
             // A count above the limit is refused as 0 was.
             Fault::PauseRefused => with_counts(plan, |count| if count == 0 { 4097 } else { count }),
-            _ => plan.to_vec(),
+            _ => self.joints_handed_on(plan),
         }
     }
 

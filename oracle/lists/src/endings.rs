@@ -43,7 +43,9 @@ impl Looping {
             plan: with_endings(&figure.plan, |_, _| 0),
             numbers: figure.numbers.clone(),
         };
-        let stops = Model::start(figure).clips().iter().any(|clip| clip.stops);
+        let model = Model::start(figure);
+        let clips = model.plan().map_or(&[][..], |plan| &plan.clips);
+        let stops = clips.iter().any(|clip| clip.stops);
         Looping(stops.then(|| Model::start(&looping())))
     }
 

@@ -59,10 +59,23 @@ pub enum Fault {
     EmptyBothSynchronised,
     OtherSynchronised,
     TextPauseRefused,
+    ByteRootAt65,
+    ByteRootLater,
+    ByteRootRefused,
+    RootRefused,
+    ByteParent,
+    ByteJoint,
+    OldJointLimit,
+    JointLimitPassed,
+    ShortOutputTaken,
+    LateJointsKept,
+    LastBlockKept,
+    TextOldLimit,
+    TextLimitPassed,
 }
 
 impl Fault {
-    pub const ALL: [Fault; 52] = [
+    pub const ALL: [Fault; 65] = [
         Fault::ClockWithoutSpeed,
         Fault::SpeedLost,
         Fault::NeighbourSet,
@@ -115,6 +128,19 @@ impl Fault {
         Fault::EmptyBothSynchronised,
         Fault::OtherSynchronised,
         Fault::TextPauseRefused,
+        Fault::ByteRootAt65,
+        Fault::ByteRootLater,
+        Fault::ByteRootRefused,
+        Fault::RootRefused,
+        Fault::ByteParent,
+        Fault::ByteJoint,
+        Fault::OldJointLimit,
+        Fault::JointLimitPassed,
+        Fault::ShortOutputTaken,
+        Fault::LateJointsKept,
+        Fault::LastBlockKept,
+        Fault::TextOldLimit,
+        Fault::TextLimitPassed,
     ];
 }
 
@@ -258,20 +284,19 @@ impl Evaluator for Faulty<'_> {
             _ => shown,
         };
         let handed_on = self.plan_handed_on(plan);
-        let mut answer = self
-            .library
-            .frame(shown, &handed_on, numbers, player, ext, output);
+        let frame = |plan| Frame {
+            shown,
+            plan,
+            numbers,
+            ext,
+        };
+        let mut answer = self.library_frame(frame(&handed_on), player, output);
         self.spoil_refusal(plan, &mut answer);
         if answer.is_accepted() {
-            let frame = Frame {
-                shown,
-                plan,
-                numbers,
-                ext,
-            };
-            self.spoil_poses(frame, player, output);
+            self.spoil_poses(frame(plan), player, output);
             self.spoil_player(&before, player);
             self.spoil_output(usize::from(plan[0]), &old, output);
+            self.spoil_joints(usize::from(plan[0]), &old, output);
         }
         self.spoil_answer(&mut answer, ext);
         match self.fault {
@@ -283,13 +308,17 @@ impl Evaluator for Faulty<'_> {
     }
 
     fn read_text(&self, text: &[u8], plan: &mut [u16], numbers: &mut [f32]) -> TextAnswer {
-        let mut answer = self.library.read_text(text, plan, numbers);
+        let text = self.text_handed_on(text);
+        let mut answer = self.library.read_text(&text, plan, numbers);
         match self.fault {
             Fault::TextPlace if answer.number == 11 => answer.place += 1,
             Fault::TextRefusedWrites if answer.number == 12 => plan.fill(0),
             Fault::TextCount if answer.number == 0 => answer.numbers = numbers.len(),
             Fault::TextPauseRefused if answer.number == 0 => {
                 self.spoil_reading(&plan[..answer.words], &mut answer);
+            }
+            Fault::TextOldLimit if answer.number == 0 => {
+                self.spoil_limit(plan, &mut answer);
             }
             Fault::TextEndingLost if answer.number == 0 => {
                 plan.copy_from_slice(&with_endings(plan, |_, _| 0));

@@ -7,7 +7,9 @@ mod endings;
 mod evaluator;
 mod faults;
 mod frame;
+mod joint_faults;
 mod output;
+mod parents;
 mod pause_faults;
 mod pauses;
 mod plans;
@@ -17,6 +19,7 @@ mod self_test;
 mod shrink;
 mod smaller_draft;
 mod step;
+mod sweep;
 mod texts;
 
 use abi::Library;

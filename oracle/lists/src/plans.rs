@@ -2,16 +2,18 @@
 
 use crate::endings::clip_words;
 use crate::evaluator::{Answer, Evaluator, HostPlayer};
+use crate::parents::parent_words;
 use crate::run::{difference, floats, same, Counts};
 use compare::generator::Generator;
 use compare::reference::Reference;
 use compare::texts::figure::Figure;
+use compare::texts::joints::{ROOT, RUST_ROOT};
 use compare::texts::random_figure::{accepted, figure};
 
 /// At the limits of counts, and beside them.
-const ODD_WORDS: [u16; 24] = [
-    0, 1, 2, 3, 4, 5, 6, 7, 15, 16, 17, 30, 31, 32, 33, 63, 64, 65, 254, 255, 256, 4096, 4097,
-    65535,
+const ODD_WORDS: [u16; 29] = [
+    0, 1, 2, 3, 4, 5, 6, 7, 15, 16, 17, 30, 31, 32, 33, 63, 64, 65, 254, 255, 256, 257, 399, 400,
+    401, 4096, 4097, 65534, 65535,
 ];
 
 /// A figure as a host may hold it: right, with a wrong word, cut, or nothing but words.
@@ -34,7 +36,7 @@ fn words(generator: &mut Generator) -> Figure {
     let limit = 1 + generator.below(4);
     let word = |_| match generator.below(12) {
         0 => generator.pick(&ODD_WORDS),
-        1 => 255,
+        1 => generator.pick(&[RUST_ROOT, ROOT]),
         _ => generator.below(limit) as u16,
     };
     let plan = (0..length).map(word).collect();
@@ -58,7 +60,7 @@ fn damage(generator: &mut Generator, figure: &mut Figure) {
     // The first words say how the others are read.
     let front = if generator.below(3) == 0 { 9 } else { 999 };
     let at = place(generator, plan.len().min(front));
-    match generator.below(13) {
+    match generator.below(14) {
         0 => plan.truncate(at),
         1 => plan.insert(at.min(plan.len()), odd_word(generator)),
         2 if !plan.is_empty() => drop(plan.remove(at)),
@@ -72,8 +74,24 @@ fn damage(generator: &mut Generator, figure: &mut Figure) {
             plan.swap(at, other);
         }
         9 => damage_clips(generator, plan),
+        10 => damage_parents(generator, plan),
         _ if plan.is_empty() => {}
         _ => plan[at] = odd_word(generator),
+    }
+}
+
+/// Words for roots and for joints about this one, some of them wrong. Above 64 joints 255 is no root.
+fn damage_parents(generator: &mut Generator, plan: &mut [u16]) {
+    let places = parent_words(plan);
+    if places.is_empty() {
+        return;
+    }
+    for _ in 0..=generator.below(3) {
+        let joint = place(generator, places.len());
+        let number = joint as u16;
+        let about = [number, number.saturating_sub(1), number + 1];
+        let words = [RUST_ROOT, RUST_ROOT, ROOT, 254, 256, ROOT - 1];
+        plan[places.start + joint] = generator.pick(&[&about[..], &words].concat());
     }
 }
 

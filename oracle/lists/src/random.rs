@@ -1,10 +1,11 @@
-//! Random figures with random steps, random plans and random texts.
+//! Random figures with random steps, random plans and random texts, and behind each the fixed ones.
 
 use crate::evaluator::{Evaluator, HostPlayer};
 use crate::plans::{self, random_plan, same_start};
 use crate::run::{run, run_steps, same, Case, Counts, Mismatch};
 use crate::shrink::shrunk;
 use crate::step::{random_steps, Step};
+use crate::sweep;
 use crate::texts::{self, random_reading, same_reading};
 use compare::generator::Generator;
 use compare::lists::call::parsed;
@@ -69,20 +70,25 @@ pub fn compare(evaluator: &dyn Evaluator, amounts: Amounts, seed: u64) -> (Found
     if let Err(what) = size {
         return (Found::Size(what), counts);
     }
-    for _ in 0..amounts.texts {
-        let reading = random_reading(&mut generator);
+    let readings = (0..amounts.texts).map(|_| random_reading(&mut generator));
+    for reading in readings.chain(sweep::readings()) {
         if same_reading(&reading, evaluator, &mut counts[2]).is_err() {
             return (Found::Text(reading), counts);
         }
     }
-    for _ in 0..amounts.plans {
-        let figure = random_plan(&mut generator);
+    let plans = (0..amounts.plans).map(|_| random_plan(&mut generator));
+    for figure in plans.chain(sweep::plans()) {
         if same_start(&figure, evaluator, &mut counts[1]).is_err() {
             return (Found::Plan(figure), counts);
         }
     }
     while counts[0].frames < amounts.frames {
         let case = random_case(&mut generator);
+        if run(&case, evaluator, &mut counts[0]).is_some() {
+            return (Found::List(Box::new(case)), counts);
+        }
+    }
+    for case in sweep::cases() {
         if run(&case, evaluator, &mut counts[0]).is_some() {
             return (Found::List(Box::new(case)), counts);
         }
@@ -167,6 +173,7 @@ fn sentence(counts: &Counts) -> String {
     let Counts {
         figures,
         rusts,
+        wide,
         calls,
         frames,
         clean,
@@ -179,7 +186,7 @@ fn sentence(counts: &Counts) -> String {
     } = counts;
     format!(
         "{frames} accepted frames ({clean} without NaN, {held} that show a held clip, {paused} an empty one) \
-         in {calls} calls to {figures} figures, {rusts} of them played by the Rust too, \
+         in {calls} calls to {figures} figures, {rusts} of them played by the Rust too, {wide} of more than 64 joints, \
          {begun} transitions begun, {ended} ended, {stores} players changed by the host; refused: {}",
         refusals(counts)
     )

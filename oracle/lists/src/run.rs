@@ -11,6 +11,7 @@ use compare::player::Seen;
 use compare::reference::Reference;
 use compare::texts::draft::Draft;
 use compare::texts::figure::{Figure, Refusal};
+use compare::texts::joints::RUST_JOINTS;
 use std::collections::BTreeMap;
 
 #[derive(Clone, Debug)]
@@ -33,6 +34,8 @@ pub struct Counts {
     pub figures: usize,
     /// Those that the Rust plays too.
     pub rusts: usize,
+    /// Those of more joints than the Rust has.
+    pub wide: usize,
     pub calls: usize,
     /// Accepted frames and page frames.
     pub frames: usize,
@@ -99,6 +102,8 @@ impl<'a> Run<'a> {
         let reference = Reference::start(figure);
         let expected = Answer::of(reference.answer());
         counts.rusts += usize::from(expected.is_accepted() && reference.is_rust());
+        let is_wide = figure.plan.first() > Some(&RUST_JOINTS);
+        counts.wide += usize::from(expected.is_accepted() && is_wide);
         let mut run = Run {
             evaluator,
             figure,

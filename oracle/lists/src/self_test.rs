@@ -10,7 +10,7 @@ const SEED: u64 = 1;
 
 const AMOUNTS: Amounts = Amounts {
     frames: 3000,
-    plans: 1200,
+    plans: 3000,
     texts: 200,
 };
 

@@ -2,11 +2,15 @@
 
 use compare::simplify::simpler_words;
 use compare::texts::draft::Draft;
+use compare::texts::joints::{is_root, ROOT};
 
 const IDENTITY: [u32; 8] = [0, 0, 0, 0x3f80_0000, 0x3f80_0000, 0, 0, 0];
 
 /// Figures of more poses get plainer pose by pose only.
 const FEW_POSES: usize = 12;
+
+/// Figures of more do not get plainer pose by pose: that would take too long.
+const MANY_POSES: usize = 96;
 
 /// Without a state, a joint, a clip, samples, a transition, or with a tree cut down.
 pub fn smaller_drafts(draft: &Draft) -> Vec<Draft> {
@@ -14,6 +18,7 @@ pub fn smaller_drafts(draft: &Draft) -> Vec<Draft> {
     let clips = (0..draft.clips.len()).rev();
     let states = (0..draft.states.len()).rev();
     let mut drafts: Vec<Draft> = states.clone().filter_map(|i| no_state(draft, i)).collect();
+    drafts.extend(first_joints(draft));
     drafts.extend(joints.filter_map(|i| no_joint(draft, i)));
     drafts.extend(clips.clone().filter_map(|i| no_clip(draft, i)));
     for count in [1, 2] {
@@ -65,6 +70,24 @@ fn poses_of(draft: &Draft, clip: usize) -> std::ops::Range<usize> {
     first..first + joints * usize::from(draft.clips[clip].samples)
 }
 
+/// With the first half of the joints, the first three quarters, and so on to all but one.
+fn first_joints(draft: &Draft) -> Vec<Draft> {
+    let joints = draft.parents.len();
+    let parts = (1..).map(|power| joints >> power);
+    let parts = parts.take_while(|&gone| gone > 0);
+    let first = |gone: usize| {
+        let mut fewer = draft.clone();
+        fewer.parents.truncate(joints - gone);
+        let poses = draft.poses.chunks(joints);
+        fewer.poses = poses
+            .flat_map(|sample| &sample[..joints - gone])
+            .copied()
+            .collect();
+        fewer
+    };
+    parts.map(first).collect()
+}
+
 fn no_joint(draft: &Draft, gone: usize) -> Option<Draft> {
     let joints = draft.parents.len();
     if joints == 1 {
@@ -74,8 +97,8 @@ fn no_joint(draft: &Draft, gone: usize) -> Option<Draft> {
     fewer.parents.remove(gone);
     for parent in &mut fewer.parents {
         *parent = match *parent {
-            255 => 255,
-            parent if usize::from(parent) == gone => 255,
+            root if is_root(joints, root) => root,
+            parent if usize::from(parent) == gone => ROOT,
             parent => closed_up(parent, gone),
         };
     }
@@ -157,13 +180,7 @@ pub fn plainer_drafts(draft: &Draft) -> Vec<Draft> {
     if plain.poses != draft.poses {
         drafts.push(plain);
     }
-    for i in 0..draft.poses.len() {
-        if draft.poses[i] != IDENTITY {
-            let mut plainer = draft.clone();
-            plainer.poses[i] = IDENTITY;
-            drafts.push(plainer);
-        }
-    }
+    drafts.extend(plainer_poses(draft));
     let count = numbers(&mut draft.clone()).len();
     for i in 0..count {
         let number = *numbers(&mut draft.clone())[i];
@@ -174,6 +191,23 @@ pub fn plainer_drafts(draft: &Draft) -> Vec<Draft> {
         }
     }
     drafts
+}
+
+/// With one pose as the identity, or where there are many an eighth of them.
+fn plainer_poses(draft: &Draft) -> Vec<Draft> {
+    let count = draft.poses.len();
+    let size = if count > MANY_POSES {
+        count.div_ceil(8)
+    } else {
+        1
+    };
+    let starts = (0..count).step_by(size);
+    let plainer = |start: usize| {
+        let mut plainer = draft.clone();
+        plainer.poses[start..count.min(start + size)].fill(IDENTITY);
+        (plainer.poses != draft.poses).then_some(plainer)
+    };
+    starts.filter_map(plainer).collect()
 }
 
 fn looping_drafts(draft: &Draft) -> Vec<Draft> {
@@ -217,6 +251,7 @@ fn numbers(draft: &mut Draft) -> Vec<&mut u32> {
 #[cfg(test)]
 mod tests {
     use super::*;
+    use crate::sweep::going;
     use compare::generator::Generator;
     use compare::texts::plan::check;
     use compare::texts::random_figure::accepted;
@@ -232,6 +267,23 @@ mod tests {
                 assert!(size(&smaller) < size(&draft));
             }
         }
+    }
+
+    /// 255 and 256 are joints here, which go away too.
+    #[test]
+    fn many_joints_are_soon_few() {
+        let mut draft = going(300);
+        let counts = first_joints(&draft)
+            .into_iter()
+            .map(|one| one.parents.len());
+        let expected = [150, 225, 263, 282, 291, 296, 298, 299];
+        assert_eq!(counts.collect::<Vec<_>>(), expected);
+        for smaller in smaller_drafts(&draft) {
+            assert!(check(&smaller.figure()).is_ok());
+        }
+        assert_eq!(plainer_poses(&draft).len(), 8);
+        draft.poses[1..].fill(IDENTITY);
+        assert_eq!(plainer_poses(&draft).len(), 1);
     }
 
     #[test]

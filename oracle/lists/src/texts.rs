@@ -4,6 +4,7 @@ use crate::evaluator::{Evaluator, TextAnswer};
 use crate::run::{same, Counts};
 use compare::generator::Generator;
 use compare::texts::figure::{Figure, Refusal};
+use compare::texts::limits::MOST_WORDS;
 use compare::texts::random_figure::figure;
 use compare::texts::reader::read;
 use compare::texts::spoil::spoiled;
@@ -101,7 +102,7 @@ pub fn same_reading(
     );
     same(
         "the greatest lengths",
-        &(2885, reading.text.len() / 9),
+        &(MOST_WORDS, reading.text.len() / 9),
         &most,
     )
 }

@@ -1,10 +1,15 @@
 //! What the tests share: a random generator with a fixed seed, figures and players.
 #![allow(dead_code)]
 
-use gentianlathe::{ClipInstance, Figure, PlayerParts, Transition};
+use gentianlathe::{ClipInstance, Figure, PlayerParts, Transition, ROOT};
 use std::fs;
 
 pub const PRINTED: &[u8] = include_bytes!("../../../../examples/printed.figure");
+
+/// Numbers of joints at the edges: of the blocks of 32 in which joints are evaluated, of the rule for 255, of a byte.
+pub const JOINT_COUNTS: [usize; 18] = [
+    1, 2, 31, 32, 33, 63, 64, 65, 96, 97, 254, 255, 256, 257, 288, 289, 399, 400,
+];
 
 /// A small generator (xorshift64*), so that a failure comes again.
 pub struct Random(u64);
@@ -54,7 +59,9 @@ impl Random {
 /// The example figures that the program shows, as texts.
 pub fn example_texts() -> Vec<Vec<u8>> {
     let folder = concat!(env!("CARGO_MANIFEST_DIR"), "/../../examples");
-    let names = ["printed", "arm", "hand", "signs", "turn", "held", "pause"];
+    let names = [
+        "printed", "arm", "hand", "signs", "turn", "held", "pause", "face",
+    ];
     let path = |name: &&str| format!("{folder}/{name}.figure");
     names
         .iter()
@@ -123,13 +130,21 @@ fn state(random: &mut Random, clips: usize, parameters: usize, states: usize) ->
 
 /// A random figure that a start accepts.
 pub fn random_figure(random: &mut Random) -> Figure {
-    let joints = *random.pick(&[1, 2, 3, 31, 32, 33, 64]);
+    let joints = match random.below(4) {
+        0 => *random.pick(&JOINT_COUNTS),
+        _ => random.between(1, 40),
+    };
     let (clips, parameters, states) = (random.between(1, 3), random.below(4), random.between(1, 4));
     let header = [joints, clips, parameters, states, random.below(states)];
     let mut plan: Vec<u16> = header.map(|word| word as u16).to_vec();
     for joint in 0..joints {
+        let root = if joints > 64 {
+            ROOT
+        } else {
+            *random.pick(&[255, ROOT])
+        };
         let parent = random.below(joint + 1);
-        plan.push(if parent == joint { 255 } else { parent as u16 });
+        plan.push(if parent == joint { root } else { parent as u16 });
     }
     let samples: Vec<usize> = (0..clips).map(|_| random.below(5)).collect();
     for count in &samples {

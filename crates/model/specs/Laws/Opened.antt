@@ -4,7 +4,7 @@ use Rattle.model.specs.Numbers.{narrow, whole, floor, ceiling, floorInde
 use Rattle.model.specs.Rotations.{normalised, lerpQuaternion, identityMatrix, productRow, product, floats, quaternionToMatrix, fromTrace, fromDiagonal, matrixToQuaternion}
 use Rattle.model.specs.Pose.{identityPose, lerp, toMatrix, fromMatrix, concat}
 use Rattle.model.specs.Answers.{values, _then_, each, require, unlessRefused}
-use Rattle.model.specs.Plan.{word, jointCount, clipCount, parameterCount, stateCount, initialState, parent, isRoot, sampleCountAt, sampleCount, isEmpty, endingAt, ending, isStopping, afterNodes, afterTransitions, stateAt, nodeCount, kindAt, kind, isClip, isLerp, inputA, inputB, nodeParameter, transitionCountAt, transitionCount, conditionParameterAt, conditionParameter, operator, targetState, planEnd, total, clipNodesAmong, clipNodesBefore, clipNode, transitionsBefore, samplesBefore, posesAt, numberAt, numbersLength, number, samplePose}
+use Rattle.model.specs.Plan.{word, jointCount, clipCount, parameterCount, stateCount, initialState, parent, isRootWord, isRoot, sampleCountAt, sampleCount, isEmpty, endingAt, ending, isStopping, afterNodes, afterTransitions, stateAt, nodeCount, kindAt, kind, isClip, isLerp, inputA, inputB, nodeParameter, transitionCountAt, transitionCount, conditionParameterAt, conditionParameter, operator, targetState, planEnd, total, clipNodesAmong, clipNodesBefore, clipNode, transitionsBefore, samplesBefore, posesAt, numberAt, numbersLength, number, samplePose}
 use Rattle.model.specs.Check.{wordIs, within, checkHeader, checkParent, checkClip, used, checkNode, checkTransition, checkState, check}
 use Rattle.model.specs.Table.{tableTo}
 use Rattle.model.specs.Clips.{firstIndex, secondIndex, factor, sampledPosition, blankInstances, duration, poseAt, clipPose}
@@ -15,7 +15,7 @@ use Rattle.model.specs.Run.{startVerdict, startPlayer, shown, framePlaye
 
 -- the check of a plan
 unfoldable pub check-opened : Unit {0}
-unfolding _then_ each require word jointCount clipCount parameterCount stateCount initialState parent isRoot sampleCountAt sampleCount isEmpty endingAt ending isStopping afterNodes afterTransitions stateAt nodeCount kindAt kind isClip isLerp inputA inputB nodeParameter transitionCountAt transitionCount conditionParameterAt conditionParameter operator targetState planEnd total clipNodesAmong clipNodesBefore clipNode transitionsBefore samplesBefore posesAt numberAt numbersLength wordIs within checkHeader checkParent checkClip used checkNode checkTransition checkState check
+unfolding _then_ each require word jointCount clipCount parameterCount stateCount initialState parent isRootWord isRoot sampleCountAt sampleCount isEmpty endingAt ending isStopping afterNodes afterTransitions stateAt nodeCount kindAt kind isClip isLerp inputA inputB nodeParameter transitionCountAt transitionCount conditionParameterAt conditionParameter operator targetState planEnd total clipNodesAmong clipNodesBefore clipNode transitionsBefore samplesBefore posesAt numberAt numbersLength wordIs within checkHeader checkParent checkClip used checkNode checkTransition checkState check
 check-opened = tt
 
 -- the float definitions

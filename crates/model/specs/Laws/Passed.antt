@@ -1,17 +1,18 @@
 -- Facts about a plan whose check accepted.
 use Prim.Native.Nat.{ℕ, _*_, _≤_, _<_}
 use native.Mathlib.Omega.{arith}
-use mathlib.Core.Path.{_≡_}
-use mathlib.Core.Bool.{false}
+use mathlib.Core.Path.{_≡_, refl, sym, _∙_}
+use mathlib.Core.Bool.{Bool, true, false}
 use mathlib.Core.List.{List}
 use lib.ListN.{length}
-use lib.Dec.{ltb}
-use borrow.Author.Tests.{ltb-true, eqb-true}
+use lib.Dec.{leb, ltb}
+use borrow.Author.Tests.{ltb-true, eqb-true, le-leb, lt-leb}
 use Rattle.model.specs.Answers.{accepted, each}
 use Rattle.model.specs.Plan.{maxJoints, maxClips, maxParameters, maxStates, maxSamples, maxTransitions, jointCount, clipCount, parameterCount, stateCount, initialState, initialStateAt, parentAt, parent, isRoot, sampleCountAt, sampleCount, endingAt, nodeCount, clipNodesAmong, clipNodesBefore, transitionCount, transitionsBefore, numbersLength}
 use Rattle.model.specs.Check.{check, checkHeader, checkParent, checkClip, checkState}
 use Rattle.model.specs.Laws.Header as header
 use Rattle.model.specs.Laws.Answers.{then-left, then-right, each-at, require-true}
+use Rattle.model.specs.Laws.Roots.{root-above}
 use Rattle.model.specs.Laws.Tests.{word-true, word-there, or-right, within-high}
 use Rattle.model.specs.Laws.State.{target-below, few-nodes, few-transitions}
 use Rattle.model.specs.Laws.Totals.{total-most}
@@ -59,6 +60,15 @@ module _ (plan : List ℕ) (n : ℕ) (ok : check plan n ≡ accepted) where
 
   pub few-joints : jointCount plan ≤ maxJoints
   few-joints = header.few-joints plan header-passed
+
+  -- a joint is a root exactly where its parent is no earlier joint
+  pub root-by-parent : (j : ℕ) → j < jointCount plan → isRoot plan j ≡ leb j (parent plan j)
+  unfolding isRoot
+  root-by-parent j h = go (isRoot plan j) refl
+    where
+      go : (t : Bool) → isRoot plan j ≡ t → isRoot plan j ≡ leb j (parent plan j)
+      go true e = e ∙ sym (le-leb _ _ (root-above (jointCount plan) (parent plan j) j few-joints h e))
+      go false e = e ∙ sym (lt-leb _ _ (parent-earlier j h e))
 
   pub few-clips : clipCount plan ≤ maxClips
   few-clips = header.few-clips plan header-passed

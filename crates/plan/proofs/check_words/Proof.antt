@@ -42,6 +42,10 @@ returns c =
     let t = c .before .match .keys2 in
     words-refuse _ _ t (stops _ _ _ t (stops _ _ _ t (stops _ _ _ t (c .before .before .check-header .ensures))))
 
+check-parents-requires : tie.Need-check-parents-requires
+unfolding jointCount
+check-parents-requires c κs = c .word .ensures
+
 returns-2 : tie.Need-returns-2
 unfolding checkWords
 returns-2 c = let t = c .before .match2 .keys2 in words-refuse _ _ t (stops _ _ _ t (stops _ _ _ t (up-to-parents (c .before .before))))
@@ -87,7 +91,7 @@ check-words-spec =
     (search needs)
     returns
     (search needs)
-    (search needs)
+    check-parents-requires
     (search needs)
     (search needs)
     returns-2

@@ -1,10 +1,10 @@
 -- `skeleton::calculate_global_poses` meets its contract: after i turns it is kept for the first i lanes. Assumes nothing.
 use borrow.Author.Needs.{needs}
-use Prim.Native.Nat.{_-_, _≤_}
+use Prim.Native.Nat.{_+_, _-_, _≤_}
 use mathlib.Core.Path.{_≡_, refl, _∙_}
 use native.Mathlib.Omega.{arith}
 use lib.ListN.{length}
-use Rattle.model.specs.Laws.Passed.{few-joints, parent-there, parent-earlier}
+use Rattle.model.specs.Laws.Passed.{few-joints, parent-there, root-by-parent}
 use Rattle.skeleton.specs.Buffer.{GlobalPoses}
 use Rattle.skeleton.proofs.Laws.{no-lanes, one-lane-more}
 use Rattle.skeleton.proofs.calculate_global_poses.Statement.{statement}
@@ -28,7 +28,7 @@ parent-matrix-requires : tie.Need-parent-matrix-requires Inv-loop μ-loop
 parent-matrix-requires c κs =
     let s = c .before .before .before .before .before in
     let ok = s .pre .0 .passed in
-    (omega (arith, few-joints _ _ ok), parent-there _ _ ok _ (omega arith), parent-earlier _ _ ok _ (omega arith), omega arith)
+    (omega (arith, few-joints _ _ ok), parent-there _ _ ok _ (omega arith), root-by-parent _ _ ok (s .args .first + c .before .before .loop .i) (omega arith), omega arith)
 
 set-joint-requires : tie.Need-set-joint-requires Inv-loop μ-loop
 set-joint-requires c κs =

@@ -2,6 +2,7 @@
 
 use crate::generator::{Generator, SPECIAL};
 use crate::texts::draft::{Clip, Draft, State, Transition};
+use crate::texts::joints::root_word;
 use crate::texts::random_figure::{pose, Numbers};
 
 const SEED: u64 = 0x5f37_59df;
@@ -39,7 +40,7 @@ pub fn figure(joints: u16, clips: &[(u16, f32)], parameters: u16, states: Vec<St
     // A second root at every seventh joint; the others hang from the joint of half their number.
     let parent = |joint: u16| {
         if joint.is_multiple_of(7) {
-            255
+            root_word(joints)
         } else {
             joint / 2
         }

@@ -12,7 +12,7 @@ pub mod tree;
 
 use crate::player::{Player, BLANK, PARAMETERS};
 use crate::texts::figure::{Figure, Refusal};
-use crate::texts::plan::Clip;
+use crate::texts::plan::Plan;
 use figure::Checked;
 use rotation::Matrix;
 
@@ -37,10 +37,10 @@ impl Model {
         }
     }
 
-    /// The clips of an accepted figure.
-    pub fn clips(&self) -> &[Clip] {
-        let figure = self.figure.as_ref();
-        figure.map_or(&[], |figure| &figure.plan.clips)
+    /// The plan of an accepted figure.
+    pub fn plan(&self) -> Option<&Plan> {
+        let figure = self.figure.as_ref().ok();
+        figure.map(|figure| &figure.plan)
     }
 
     pub fn player(&self) -> &Player {
@@ -96,6 +96,8 @@ fn refused<T>(number: u8) -> Result<T, Refusal> {
     Err(Refusal { number, place: 0 })
 }
 
+#[cfg(test)]
+mod joint_tests;
 #[cfg(test)]
 mod pause_tests;
 #[cfg(test)]

@@ -3,15 +3,13 @@
 use super::pose::Pose;
 use super::rotation::{product, Matrix};
 
-const ROOT: u16 = 255;
-
 /// Each joint's matrix.
-pub fn matrices(parents: &[u16], poses: &[Pose]) -> Vec<Matrix> {
+pub fn matrices(parents: &[Option<u16>], poses: &[Pose]) -> Vec<Matrix> {
     let mut matrices: Vec<Matrix> = Vec::new();
     for (&parent, pose) in parents.iter().zip(poses) {
         let above = match parent {
-            ROOT => Pose::IDENTITY.matrix(),
-            parent => matrices[usize::from(parent)],
+            None => Pose::IDENTITY.matrix(),
+            Some(parent) => matrices[usize::from(parent)],
         };
         matrices.push(product(&above, &pose.matrix()));
     }

@@ -1,5 +1,6 @@
 //! The Rust's own controller, made from a plan and its numbers.
 
+use crate::texts::joints::RUST_ROOT;
 use crate::texts::plan::{Inputs, Node, Plan, State, Transition};
 use skeletal_animation::animation::{AnimationClip, AnimationSample};
 use skeletal_animation::blend_tree::BlendTreeNodeDef;
@@ -127,12 +128,18 @@ fn pose(numbers: &mut Numbers) -> QVTransform {
 }
 
 fn skeleton(plan: &Plan) -> Skeleton {
-    let joint = |(number, &parent): (usize, &u16)| Joint {
+    let joint = |(number, &parent): (usize, &Option<u16>)| Joint {
         name: name(number),
-        parent_index: u8::try_from(parent).expect("a parent that the check let pass"),
+        parent_index: parent_index(parent),
         inverse_bind_pose: Matrix4::identity(),
     };
     Skeleton {
         joints: plan.parents.iter().enumerate().map(joint).collect(),
     }
+}
+
+/// The Rust has one word for a root, whichever the plan has.
+fn parent_index(parent: Option<u16>) -> u8 {
+    let word = parent.unwrap_or(RUST_ROOT);
+    u8::try_from(word).expect("a joint of at most 64")
 }

@@ -1,7 +1,7 @@
-//! The reference player. Figures whose clips all loop and all have samples are played by the Rust's
-//! controller, and by the oracle's own model beside it: the two must agree on every answer, matrix and
-//! player. A figure with another clip, one that stops or is empty, is played by the model alone, since
-//! the Rust has no such clips.
+//! The reference player. Figures of at most 64 joints whose clips all loop and all have samples are
+//! played by the Rust's controller, and by the oracle's own model beside it: the two must agree on
+//! every answer, matrix and player. A figure of more joints or with another clip, one that stops or is
+//! empty, is played by the model alone, since the Rust has no such figures.
 
 pub mod controller;
 mod rust;
@@ -11,14 +11,14 @@ use crate::lists::report::{ending, player_line};
 use crate::model::Model;
 use crate::player::{Player, Seen};
 use crate::texts::figure::{Figure, Refusal};
-use crate::texts::plan::Clip;
+use crate::texts::plan::Plan;
 use rust::RustPlayer;
 use skeletal_animation::math::Matrix4;
 
 pub struct Reference {
     figure: Figure,
     model: Model,
-    /// Only where it has such clips.
+    /// Only where it has such figures.
     rust: Option<RustPlayer>,
 }
 
@@ -28,7 +28,7 @@ impl Reference {
     /// A player of the figure, fresh where the figure is accepted and else blank.
     pub fn start(figure: &Figure) -> Reference {
         let model = Model::start(figure);
-        let is_rusts = model.clips().iter().all(Clip::is_rusts);
+        let is_rusts = model.plan().is_none_or(Plan::is_rusts);
         let reference = Reference {
             figure: figure.clone(),
             rust: is_rusts.then(|| RustPlayer::start(figure)),

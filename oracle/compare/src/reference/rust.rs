@@ -4,7 +4,7 @@
 use super::controller::{self, name, Controller};
 use crate::player::{Instance, Player, Running, BLANK_INSTANCE, INSTANCES, PARAMETERS};
 use crate::texts::figure::{Figure, Refusal};
-use crate::texts::plan::{check, Clip, Node, Plan};
+use crate::texts::plan::{check, Node, Plan};
 use skeletal_animation::animation::ClipInstance;
 use skeletal_animation::blend_tree::access::{clip_places, instance, instance_mut};
 use skeletal_animation::controller::access::{fields, fields_mut};
@@ -143,8 +143,10 @@ fn refused<T>(number: u8) -> Result<T, Refusal> {
 }
 
 fn playing(plan: &Plan, numbers: &[u32]) -> (Controller, Vec<Leaf>) {
-    let is_rusts = plan.clips.iter().all(Clip::is_rusts);
-    assert!(is_rusts, "the Rust is given a clip that stops or is empty");
+    assert!(
+        plan.is_rusts(),
+        "the Rust is given a clip that stops or is empty, or a 65th joint"
+    );
     let controller = controller::controller(plan, numbers);
     let leaves = leaves(plan, &controller);
     (controller, leaves)

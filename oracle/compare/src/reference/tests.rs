@@ -168,6 +168,44 @@ fn the_rust_is_never_given_an_empty_clip() {
     super::rust::RustPlayer::start(&empty());
 }
 
+/// One clip of one sample, so many joints, roots all by this word.
+fn roots(joints: u16, word: u16) -> Figure {
+    let parents = vec![word; usize::from(joints)];
+    let plan = [
+        &[joints, 1, 0, 1, 0][..],
+        &parents,
+        &[1, 0, 1, 0, 0, 0, 0, 0],
+    ];
+    Figure {
+        plan: plan.concat(),
+        numbers: vec![0; 1 + 8 * usize::from(joints)],
+    }
+}
+
+#[test]
+fn the_rust_plays_up_to_64_joints() {
+    for (joints, word, is_rust) in [(1, 65535, true), (64, 255, true), (64, 65535, true)]
+        .into_iter()
+        .chain([(65, 65535, false), (400, 65535, false)])
+    {
+        let mut reference = Reference::start(&roots(joints, word));
+        assert_eq!(reference.answer(), Ok(()));
+        assert_eq!(reference.is_rust(), is_rust, "{joints}");
+        let shown = reference.frame(0.0, 6400).unwrap();
+        assert_eq!(shown.len(), usize::from(joints));
+    }
+    assert_eq!(
+        Reference::start(&roots(65, 255)).answer(),
+        Err(refusal(3, 5))
+    );
+}
+
+#[test]
+#[should_panic(expected = "or a 65th joint")]
+fn the_rust_is_never_given_a_65th_joint() {
+    super::rust::RustPlayer::start(&roots(65, 65535));
+}
+
 /// Of a refused figure the Rust plays the blank player, and refuses the frames.
 #[test]
 fn a_wrong_ending_is_refused_in_every_frame() {

@@ -1,6 +1,8 @@
 //! Texts at the edges of what the reader takes, each with the answer that documents 01 and 02 give: a
 //! refusal's number and place, or none where the figure is played.
 
+use super::joints::ROOT;
+
 /// A lerp node and a transition in 316 bytes. Parameter 0 is 0, so the transition begins.
 pub const BLEND: &str = "\
 figure,1,2,1,2,0
@@ -21,7 +23,7 @@ pose,00000000,3f800000,00000000,3f800000,3f800000,00000000,00000000,00000000
 pub type Answer = Option<(u8, usize)>;
 
 /// A line of `BLEND`, what stands in its place, and the answer. Line 14 comes after the last.
-const LINES: [(usize, &str, Answer); 102] = [
+const LINES: [(usize, &str, Answer); 104] = [
     (1, "figure,1,2,1,2,0\n", None),
     // Lines that are not there, not whole, or too many.
     (1, "", Some((11, 1))),
@@ -74,7 +76,8 @@ const LINES: [(usize, &str, Answer); 102] = [
     (2, "joint,\"255\"\n", Some((11, 2))),
     (2, "joint,2/5\n", Some((11, 2))),
     (2, "joint,2:5\n", Some((11, 2))),
-    (2, "joint,65535\n", Some((3, 5))),
+    (2, "joint,65534\n", Some((3, 5))),
+    (2, "joint,65535\n", None),
     (2, "joint,65536\n", Some((11, 2))),
     (2, "joint,65791\n", Some((11, 2))),
     (2, "joint,18446744073709551871\n", Some((11, 2))),
@@ -111,8 +114,9 @@ const LINES: [(usize, &str, Answer); 102] = [
     (3, "clip,1,0,3f800000\n", Some((11, 3))),
     (3, "clip,3f800000,1,0\n", Some((11, 3))),
     // Counts at their upper limits and above: the limit lets the line pass.
-    (1, "figure,64,2,1,2,0\n", Some((11, 3))),
-    (1, "figure,65,2,1,2,0\n", Some((11, 1))),
+    (1, "figure,65,2,1,2,0\n", Some((11, 3))),
+    (1, "figure,400,2,1,2,0\n", Some((11, 3))),
+    (1, "figure,401,2,1,2,0\n", Some((11, 1))),
     (1, "figure,1,16,1,2,0\n", Some((11, 5))),
     (1, "figure,1,17,1,2,0\n", Some((11, 1))),
     (1, "figure,1,2,32,2,0\n", None),
@@ -161,6 +165,34 @@ const WHOLE: [(&str, Answer); 11] = [
     ("figure,0,16,0,0,0\nclip,4096,00000000,0\n", Some((11, 3))),
 ];
 
+/// J, a joint and its parent, and the answer. All other joints are roots.
+const PARENTS: [(u16, u16, u16, Answer); 24] = [
+    (2, 1, 255, None),
+    (2, 1, 65535, None),
+    (2, 1, 254, Some((3, 6))),
+    (2, 1, 256, Some((3, 6))),
+    (64, 63, 255, None),
+    (64, 63, 254, Some((3, 68))),
+    (64, 63, 256, Some((3, 68))),
+    (64, 63, 65534, Some((3, 68))),
+    (65, 64, 65535, None),
+    (65, 0, 255, Some((3, 5))),
+    (65, 32, 255, Some((3, 37))),
+    (65, 64, 255, Some((3, 69))),
+    (65, 64, 64, Some((3, 69))),
+    (255, 254, 255, Some((3, 259))),
+    (256, 255, 255, Some((3, 260))),
+    (257, 0, 255, Some((3, 5))),
+    (257, 255, 255, Some((3, 260))),
+    (257, 256, 256, Some((3, 261))),
+    (257, 256, 65534, Some((3, 261))),
+    (400, 255, 255, Some((3, 260))),
+    (400, 399, 399, Some((3, 404))),
+    (400, 399, 400, Some((3, 404))),
+    (400, 399, 65279, Some((3, 404))),
+    (401, 400, 255, Some((11, 1))),
+];
+
 /// N and ending of two clips, and the answer. Their state has no nodes, which is found after them.
 const CLIPS: [([u16; 4], Answer); 11] = [
     ([1, 0, 1, 0], Some((2, 10))),
@@ -204,8 +236,18 @@ pub fn edges() -> Vec<(Vec<u8>, Answer)> {
     let whole = WHOLE.map(|(text, answer)| (text.into(), answer));
     let clips = CLIPS.map(|(words, answer)| (two_clips(words).into(), answer));
     let pauses = PAUSES.map(|(clips, poses, answer)| (paused(clips, poses).into(), answer));
+    let parents = PARENTS.map(|(joints, joint, parent, answer)| {
+        let text = with_parent(joints, joint, parent);
+        (text.into(), answer)
+    });
     let edges = lines.into_iter().chain(whole).chain(clips);
-    edges.chain(pauses).collect()
+    edges.chain(pauses).chain(parents).collect()
+}
+
+fn with_parent(joints: u16, joint: u16, parent: u16) -> String {
+    let words = (0..joints).map(|other| if other == joint { parent } else { ROOT });
+    let lines: String = words.map(|word| format!("joint,{word}\n")).collect();
+    format!("figure,{joints},1,0,1,0\n{lines}clip,0,3f800000,0\nstate,1,0\nnode,0,0,0,0\n")
 }
 
 fn paused(clips: &[&str], poses: usize) -> String {
@@ -242,7 +284,7 @@ mod tests {
         }
     }
 
-    /// In the last table all that is played shows the identity, but where the last clip has a sample.
+    /// In the pauses' table all that is played shows the identity, but where the last clip has a sample.
     #[test]
     fn pauses_show_the_identity() {
         let (one, none) = ("3f800000", "00000000");

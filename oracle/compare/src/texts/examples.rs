@@ -2,7 +2,7 @@
 
 use super::case::Case;
 use super::edges::{edges, BLEND};
-use super::limits::{full_text, long_text, most_words_text, pauses_text};
+use super::limits::{full_text, long_text, most_words_text, pauses_text, shown_text, Long};
 use super::printed::{printed, LONGEST};
 use crate::generator::Generator;
 use std::collections::BTreeMap;
@@ -14,6 +14,10 @@ const SEED: u64 = 0x5f37_59df;
 
 /// The example of which every damage is recorded.
 const DAMAGED: &str = "printed";
+
+/// So many joints with poses: the most under either word for a root, one more, and one more than a
+/// byte numbers. The longest text has 400.
+const SHOWN: [u16; 3] = [64, 65, 257];
 
 /// The contents of a folder's files with this extension, by name.
 fn files(folder: &Path, extension: &str) -> io::Result<BTreeMap<String, Vec<u8>>> {
@@ -38,7 +42,7 @@ fn cases(figures: &BTreeMap<String, Vec<u8>>) -> io::Result<Vec<Case>> {
     let damaged = figures.get(DAMAGED);
     let damaged = damaged.ok_or_else(|| io::Error::other(format!("no {DAMAGED}.figure")))?;
     let mut generator = Generator::new(SEED);
-    let longest = long_text(&mut generator, LONGEST);
+    let longest = long_text(&mut generator, Long::Rusts, LONGEST);
     let mut cases: Vec<Case> = figures.values().cloned().map(Case::text).collect();
     cases.extend(edges().into_iter().map(|(text, _)| Case::text(text)));
     // One byte more, and what stands before it is a good text still.
@@ -47,8 +51,12 @@ fn cases(figures: &BTreeMap<String, Vec<u8>>) -> io::Result<Vec<Case>> {
         Case::text(full_text(&mut generator, 64)),
         Case::text(full_text(&mut generator, 65)),
         Case::text(pauses_text()),
-        Case::text(most_words_text(&mut generator, 1)),
-        Case::text(most_words_text(&mut generator, 2)),
+        Case::text(most_words_text(1)),
+        Case::text(most_words_text(2)),
+    ]);
+    cases.extend(SHOWN.map(|joints| Case::text(shown_text(&mut generator, joints))));
+    cases.extend([
+        Case::text(long_text(&mut generator, Long::Widest, LONGEST)),
         Case::text(longest),
         Case::text(too_long),
         Case::text([0; LONGEST]),

@@ -1,24 +1,66 @@
 //! Good figures at the limits: of a text's length, and of the counts.
 
 use super::draft::{Clip, Draft, State, Transition};
+use super::joints::{mixed_parents, root_word, MOST_JOINTS, RUST_JOINTS};
 use super::random_figure::{pose, Numbers};
 use crate::generator::Generator;
 
-const JOINTS: u16 = 64;
 const CLIPS: u16 = 16;
 const ONE: u32 = 0x3f80_0000;
 
-/// 64 joints, in a text of this length: about the greatest that the program takes.
-pub fn long_text(generator: &mut Generator, length: usize) -> String {
-    // Numbers of one digit; 255 for the first.
-    let parent = |joint: u16| joint.checked_sub(1).map_or(255, |before| before % 9);
-    let mut draft = Draft {
-        parameters: 2,
-        parents: (0..JOINTS).map(parent).collect(),
-        clips: [5, 4, 3, 1].map(|samples| clip(samples, 0)).to_vec(),
-        states: [8, 4, 1].map(|leaves| balanced(leaves, 4, 2)).to_vec(),
-        ..Draft::default()
-    };
+/// The most words that a plan of at most so many joints, clips, states, nodes and transitions has.
+pub const MOST_WORDS: usize = 5 + MOST_JOINTS as usize + 2 * 16 + 16 * (2 + 4 * 31 + 3 * 16);
+
+/// Either figure fits into a text of the greatest length, with about 500 bytes left.
+#[derive(Clone, Copy, Debug)]
+pub enum Long {
+    /// 13 samples of 64 joints.
+    Rusts,
+    /// Two samples of 400.
+    Widest,
+}
+
+impl Long {
+    pub fn joints(self) -> u16 {
+        match self {
+            Long::Rusts => RUST_JOINTS,
+            Long::Widest => MOST_JOINTS,
+        }
+    }
+
+    fn draft(self) -> Draft {
+        let (samples, leaves): (&[u16], &[u16]) = match self {
+            Long::Rusts => (&[5, 4, 3, 1], &[8, 4, 1]),
+            Long::Widest => (&[1, 1], &[4, 2]),
+        };
+        let tree = |&leaves: &u16| balanced(leaves, samples.len() as u16, 2);
+        Draft {
+            parameters: 2,
+            parents: (0..self.joints()).map(|joint| self.parent(joint)).collect(),
+            clips: samples.iter().map(|&samples| clip(samples, 0)).collect(),
+            states: leaves.iter().map(tree).collect(),
+            ..Draft::default()
+        }
+    }
+
+    /// Of one digit mostly.
+    fn parent(self, joint: u16) -> u16 {
+        match joint.checked_sub(1) {
+            None => root_word(self.joints()),
+            Some(before) if is_crossing(joint) => before,
+            Some(before) => before % 9,
+        }
+    }
+}
+
+/// Whether it has the joint before it for a parent.
+fn is_crossing(joint: u16) -> bool {
+    joint.is_multiple_of(32)
+}
+
+/// A text of this length: about the greatest that the program takes.
+pub fn long_text(generator: &mut Generator, long: Long, length: usize) -> String {
+    let mut draft = long.draft();
     put_poses(generator, &mut draft);
     lengthen(&mut draft, length);
     draft.text()
@@ -33,7 +75,7 @@ pub fn full_text(generator: &mut Generator, clip_nodes: u16) -> String {
 
 /// All counts but N at their upper limits: without samples this text is short enough.
 pub fn pauses_text() -> String {
-    full(JOINTS, 0, 64).text()
+    full(MOST_JOINTS, 0, 64).text()
 }
 
 fn full(joints: u16, samples: u16, clip_nodes: u16) -> Draft {
@@ -42,7 +84,7 @@ fn full(joints: u16, samples: u16, clip_nodes: u16) -> Draft {
     leaves[15] = clip_nodes - 60;
     let mut draft = Draft {
         parameters: 32,
-        parents: vec![255; usize::from(joints)],
+        parents: vec![root_word(joints); usize::from(joints)],
         clips: (0..CLIPS).map(|number| clip(samples, number % 2)).collect(),
         states: leaves.map(|leaves| balanced(leaves, CLIPS, 32)).to_vec(),
         ..Draft::default()
@@ -54,18 +96,29 @@ fn full(joints: u16, samples: u16, clip_nodes: u16) -> Draft {
     draft
 }
 
-/// As many words as a text can have: 2885. The samples of its first clip are the only ones, so that
-/// the text is short enough; this clip's ending is given.
-pub fn most_words_text(generator: &mut Generator, ending: u16) -> String {
+/// As many words as a text can have. There are no samples, so that the text is short enough; the
+/// first clip's ending is given.
+pub fn most_words_text(ending: u16) -> String {
     let mut clips = vec![clip(0, 1); usize::from(CLIPS)];
-    clips[0] = clip(1, ending);
+    clips[0].ending = ending;
     let mut state = balanced(16, CLIPS, 32);
     state.transitions = vec![transition(31, true, 15); 16];
-    let mut draft = Draft {
+    let draft = Draft {
         parameters: 32,
-        parents: vec![255; usize::from(JOINTS)],
+        parents: vec![root_word(MOST_JOINTS); usize::from(MOST_JOINTS)],
         clips,
         states: vec![state; 16],
+        ..Draft::default()
+    };
+    draft.text()
+}
+
+/// One sample, under parents of all sorts.
+pub fn shown_text(generator: &mut Generator, joints: u16) -> String {
+    let mut draft = Draft {
+        parents: mixed_parents(joints),
+        clips: vec![clip(1, 0)],
+        states: vec![balanced(1, 1, 1)],
         ..Draft::default()
     };
     put_poses(generator, &mut draft);
@@ -104,7 +157,7 @@ fn transition(parameter: u16, passes: bool, target: u16) -> Transition {
     }
 }
 
-/// Adds transitions while they fit, then bytes one by one: a digit more in a parent's number.
+/// Adds transitions while they fit, then bytes one by one: a second digit in a parent's number.
 fn lengthen(draft: &mut Draft, length: usize) {
     let bytes = "go,1,4,1,00000000,3f800000\n".len();
     let mut missing = length - draft.text().len();
@@ -115,7 +168,8 @@ fn lengthen(draft: &mut Draft, length: usize) {
             missing -= bytes;
         }
     }
-    for joint in (11..JOINTS).rev().take(missing) {
+    let joints = (11..RUST_JOINTS).rev().filter(|&joint| !is_crossing(joint));
+    for joint in joints.take(missing) {
         draft.parents[usize::from(joint)] = joint - 1;
     }
 }
@@ -128,12 +182,15 @@ mod tests {
 
     #[test]
     fn a_long_text_has_its_length_and_is_played() {
-        for length in LONGEST - 500..=LONGEST + 1 {
-            let text = long_text(&mut Generator::new(1), length);
-            assert_eq!(text.len(), length);
+        for long in [Long::Rusts, Long::Widest] {
+            for length in LONGEST - 500..=LONGEST + 1 {
+                let text = long_text(&mut Generator::new(1), long, length);
+                assert_eq!(text.len(), length, "{long:?}");
+            }
+            let text = long_text(&mut Generator::new(1), long, LONGEST);
+            let shown = played(text.as_bytes()).unwrap();
+            assert_eq!(shown.len(), usize::from(long.joints()));
         }
-        let text = long_text(&mut Generator::new(1), LONGEST);
-        assert_eq!(played(text.as_bytes()).unwrap().len(), usize::from(JOINTS));
     }
 
     #[test]
@@ -153,18 +210,19 @@ mod tests {
     fn a_full_text_without_samples_is_played() {
         let text = pauses_text().into_bytes();
         assert!(text.len() <= LONGEST);
-        assert_eq!(played(&text).unwrap().len(), usize::from(JOINTS));
+        assert_eq!(played(&text).unwrap().len(), usize::from(MOST_JOINTS));
     }
 
-    /// Clips begin at place 69, and the first has an ending that passes, or does not. The fifth state's
+    /// Clips begin at place 405, and the first has an ending that passes, or does not. The fifth state's
     /// first node is the 65th clip node.
     #[test]
     fn the_longest_plan_is_read_and_refused() {
-        let kind = 5 + 64 + 2 * 16 + 4 * (2 + 4 * 31 + 3 * 16) + 1;
-        for (ending, number, place) in [(0, 2, kind), (1, 2, kind), (2, 14, 70)] {
-            let text = most_words_text(&mut Generator::new(1), ending).into_bytes();
+        let kind = 5 + 400 + 2 * 16 + 4 * (2 + 4 * 31 + 3 * 16) + 1;
+        for (ending, number, place) in [(0, 2, kind), (1, 2, kind), (2, 14, 406)] {
+            let text = most_words_text(ending).into_bytes();
             let figure = read(&text).unwrap();
-            assert_eq!(figure.plan.len(), 2885);
+            assert_eq!(figure.plan.len(), MOST_WORDS);
+            assert_eq!(MOST_WORDS, 3221);
             assert_eq!(played(&text), Err(Refusal { number, place }));
         }
     }

@@ -1,14 +1,15 @@
 //! The check of a plan, refusals 1 to 7 and 14, written from documents 01 and 02 alone.
 
 use super::figure::{Figure, Refusal};
+use super::joints::{is_root, MOST_JOINTS, RUST_JOINTS};
 use std::ops::RangeInclusive;
 
-const ROOT: u16 = 255;
 const CLIP_NODES: usize = 64;
 
 /// A plan that passed, taken apart.
 pub struct Plan {
-    pub parents: Vec<u16>,
+    /// None of a root.
+    pub parents: Vec<Option<u16>>,
     pub clips: Vec<Clip>,
     pub parameters: u16,
     pub states: Vec<State>,
@@ -28,7 +29,7 @@ impl Clip {
     }
 
     /// Whether the Rust has such clips: with samples, and looping.
-    pub fn is_rusts(&self) -> bool {
+    fn is_rusts(&self) -> bool {
         !self.is_empty() && !self.stops
     }
 }
@@ -77,6 +78,12 @@ fn refused<T>(number: u8, place: usize) -> Result<T, Refusal> {
 }
 
 impl Plan {
+    /// Whether the Rust can play it.
+    pub fn is_rusts(&self) -> bool {
+        let joints = usize::from(RUST_JOINTS);
+        self.parents.len() <= joints && self.clips.iter().all(Clip::is_rusts)
+    }
+
     /// How many numbers belong to it.
     fn numbers(&self) -> usize {
         let transitions: usize = self.states.iter().map(|s| s.transitions.len()).sum();
@@ -95,12 +102,12 @@ struct Words<'a> {
 
 impl Words<'_> {
     fn plan(&mut self) -> Result<Plan, Refusal> {
-        let joints = self.count(1..=64)?;
+        let joints = self.count(1..=MOST_JOINTS)?;
         let clips = self.count(1..=16)?;
         let parameters = self.count(0..=32)?;
         let states = self.count(1..=16)?;
         let initial = self.word(2, |word| word < states)?;
-        let parent = |joint| self.word(3, |word| word == ROOT || word < joint);
+        let parent = |joint| self.parent(joint, joints);
         let parents = (0..joints).map(parent).collect::<Result<_, _>>()?;
         let played = (0..clips).map(|_| self.clip());
         let played = played.collect::<Result<_, _>>()?;
@@ -113,6 +120,12 @@ impl Words<'_> {
             states,
             initial,
         })
+    }
+
+    fn parent(&mut self, joint: u16, joints: u16) -> Result<Option<u16>, Refusal> {
+        let is_root = |word| is_root(usize::from(joints), word);
+        let word = self.word(3, |word| is_root(word) || word < joint)?;
+        Ok((!is_root(word)).then_some(word))
     }
 
     fn clip(&mut self) -> Result<Clip, Refusal> {
@@ -246,12 +259,12 @@ mod tests {
     #[test]
     fn a_wrong_word_is_blamed() {
         let at_itself = [
-            (0, [0, 65], 2),
+            (0, [0, 401], 2),
             (1, [0, 17], 2),
             (2, [33, 65535], 2),
             (3, [0, 17], 2),
             (4, [2, 65535], 2),
-            (5, [0, 254], 3),
+            (5, [0, 65534], 3),
             (6, [1, 256], 3),
             (7, [4097, 65535], 2),
             (8, [2, 65535], 14),

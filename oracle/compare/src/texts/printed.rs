@@ -1,6 +1,7 @@
 //! What the program prints for a text.
 
 use super::figure::{Figure, Refusal};
+use super::joints::MOST_JOINTS;
 use super::reader;
 use crate::judge::matrix_bits;
 use crate::reference::Reference;
@@ -21,7 +22,7 @@ pub fn printed(text: &[u8]) -> String {
 pub fn played(text: &[u8]) -> Result<Vec<Matrix4<f32>>, Refusal> {
     let mut player = Reference::start(&read(text)?);
     player.answer()?;
-    player.frame(0.0, 16 * 64)
+    player.frame(0.0, 16 * usize::from(MOST_JOINTS))
 }
 
 /// What a program reads: the figure of a text that is not too long.

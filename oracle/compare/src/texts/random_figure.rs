@@ -1,11 +1,13 @@
 //! Random figures. The start takes most of them, and refuses the others for a word.
 
 use super::draft::{Clip, Draft, State, Transition};
+use super::random_joints::{joints, parents};
 use super::wrong_figure::put_fault;
 use crate::generator::{Generator, SPECIAL};
 
-/// So many pose lines keep a text well below the program's limit.
-const MOST_POSES: u16 = 400;
+/// So many pose lines keep a text below the program's limit, whatever else there is. Above 280 joints
+/// there is one sample.
+const MOST_POSES: u16 = 560;
 
 /// How a figure's numbers are chosen.
 #[derive(Clone, Copy)]
@@ -29,7 +31,7 @@ const STYLES: [Numbers; 4] = [
 
 pub fn figure(generator: &mut Generator) -> Draft {
     let style = generator.pick(&STYLES);
-    let joints = count(generator, 3, 64);
+    let joints = joints(generator, 3);
     let mut draft = good(generator, style, joints);
     if generator.below(3) == 0 {
         put_fault(generator, &mut draft);
@@ -55,7 +57,7 @@ const MOSTLY_SENSIBLE: [Numbers; 8] = [
 pub fn accepted(generator: &mut Generator) -> Draft {
     let style = generator.pick(&MOSTLY_SENSIBLE);
     let usual = generator.pick(&[3, 3, 3, 3, 3, 3, 3, 64]);
-    let joints = count(generator, usual, 64);
+    let joints = joints(generator, usual);
     let mut draft = good(generator, style, joints);
     let poses = (0..draft.pose_count()).map(|_| pose(generator, style));
     draft.poses = poses.collect();
@@ -63,7 +65,7 @@ pub fn accepted(generator: &mut Generator) -> Draft {
 }
 
 /// From 1 to `usual`, seldom to `most`.
-fn count(generator: &mut Generator, usual: u64, most: u64) -> u16 {
+pub(super) fn count(generator: &mut Generator, usual: u64, most: u64) -> u16 {
     let limit = if generator.below(16) == 0 {
         most
     } else {
@@ -72,14 +74,14 @@ fn count(generator: &mut Generator, usual: u64, most: u64) -> u16 {
     1 + generator.below(limit) as u16
 }
 
-fn below(generator: &mut Generator, limit: u16) -> u16 {
+pub(super) fn below(generator: &mut Generator, limit: u16) -> u16 {
     generator.below(u64::from(limit)) as u16
 }
 
 fn good(generator: &mut Generator, style: Numbers, joints: u16) -> Draft {
     let mut draft = Draft {
         parameters: count(generator, 3, 33) - 1,
-        parents: (0..joints).map(|joint| parent(generator, joint)).collect(),
+        parents: parents(generator, joints),
         ..Draft::default()
     };
     draft.clips = clips(generator, style, joints);
@@ -105,12 +107,13 @@ fn others(generator: &mut Generator) -> (bool, bool) {
 }
 
 fn clips(generator: &mut Generator, style: Numbers, joints: u16) -> Vec<Clip> {
-    let count_of_clips = count(generator, 3, 16).min(MOST_POSES / joints);
+    let most_samples = MOST_POSES / joints;
+    let count_of_clips = count(generator, 3, 16).min(most_samples);
     let (stop, pause) = others(generator);
     let clip = |_| {
         let mut clip = Clip {
             rate: number(generator, style) & positive(style),
-            samples: count(generator, 2, 16).min(MOST_POSES / joints / count_of_clips),
+            samples: count(generator, 2, 16).min(most_samples / count_of_clips),
             ending: u16::from(stop && generator.below(2) == 0),
         };
         if pause && generator.below(2) == 0 {
@@ -137,14 +140,6 @@ fn leaves(generator: &mut Generator, states: u16) -> Vec<u16> {
     let near = 63 + below(generator, 3);
     let each = |state: u16| (near * (state + 1) / states - near * state / states).clamp(1, 16);
     (0..states).map(each).collect()
-}
-
-fn parent(generator: &mut Generator, joint: u16) -> u16 {
-    match generator.below(4) {
-        0 => 255,
-        _ if joint == 0 => 255,
-        _ => below(generator, joint),
-    }
 }
 
 fn state(

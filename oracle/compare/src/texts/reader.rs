@@ -1,8 +1,8 @@
 //! The text reader, written from documents 01 and 02 alone.
 
 use super::figure::{Figure, Refusal};
+use super::joints::MOST_JOINTS;
 
-const MOST_JOINTS: u16 = 64;
 const MOST_CLIPS: u16 = 16;
 const MOST_PARAMETERS: u16 = 32;
 const MOST_STATES: u16 = 16;

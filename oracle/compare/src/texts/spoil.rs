@@ -7,9 +7,9 @@ use crate::generator::Generator;
 const ODD_BYTES: &[u8] = b"\0\t\n\r \"+,-./09:@AFG`afgxz\x7f\x80\xff";
 
 /// At the limits of counts, of words and of machine integers.
-const ODD_DECIMALS: [u64; 20] = [
-    0, 1, 2, 6, 16, 17, 31, 32, 33, 64, 65, 255, 256, 4096, 4097, 65535, 65536, 65537, 65791,
-    4294967296,
+const ODD_DECIMALS: [u64; 24] = [
+    0, 1, 2, 6, 16, 17, 31, 32, 33, 64, 65, 255, 256, 399, 400, 401, 4096, 4097, 65534, 65535,
+    65536, 65537, 65791, 4294967296,
 ];
 
 /// What is no decimal.
@@ -18,10 +18,11 @@ const ODD_WORDS: [&str; 9] = [
 ];
 
 /// Lines that a text may have, at the wrong place.
-const ODD_LINES: [&str; 10] = [
+const ODD_LINES: [&str; 11] = [
     "\n",
     "figure,1,1,0,1,0\n",
     "joint,255\n",
+    "joint,65535\n",
     "clip,1,3f800000,0\n",
     "clip,0,3f800000,1\n",
     "clip,1,3f800000\n",

@@ -7,7 +7,9 @@ use crate::generator::Generator;
 fn odd_word(generator: &mut Generator, limit: usize) -> u16 {
     let limit = limit as u16;
     let random = generator.draw() as u16;
-    generator.pick(&[limit, limit + 1, 0, 1, 2, 3, 254, 255, 256, 65535, random])
+    let words = [0, 1, 2, 3, 254, 255, 256, 65534, 65535];
+    let others = [limit, limit + 1, random];
+    generator.pick(&[&words[..], &others].concat())
 }
 
 fn any<'a, T>(generator: &mut Generator, items: &'a mut [T]) -> &'a mut T {

@@ -106,6 +106,7 @@ pub fn outputs() -> Vec<List> {
         list("output-32-joints", "likewise for 32 joints", going(32)),
         list("output-33-joints", "likewise for 33 joints", going(33)),
         list("output-64-joints", "likewise for 64 joints", going(64)),
+        list("output-65-joints", "likewise for 65 joints", going(65)),
     ]
 }
 

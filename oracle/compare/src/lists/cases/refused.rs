@@ -7,7 +7,7 @@ use crate::lists::figures::{figure, going, mixed, one_clip, state, CLIP, EQUAL, 
 use crate::lists::recorded::List;
 use crate::texts::draft::Draft;
 use crate::texts::edges::BLEND;
-use crate::texts::limits::long_text;
+use crate::texts::limits::{long_text, Long};
 use crate::texts::printed::LONGEST;
 
 /// Calls of each kind, to the blank player.
@@ -93,12 +93,14 @@ pub fn starts() -> Vec<List> {
 
 pub fn unread_figures() -> Vec<List> {
     let good = text(&calls());
-    let longest = long_text(&mut Generator::new(1), LONGEST);
+    let longest = long_text(&mut Generator::new(1), Long::Widest, LONGEST);
     let too_long = longest.clone() + "\n";
     let too_many = BLEND.replace("clip,1,4", "clip,4097,4");
     let a_pose = BLEND.replace("clip,1,4", "clip,0,4");
     let list = |name: &str, purpose, figure: &str| List::raw(name, purpose, figure, good.clone());
-    let one_frame = text(&[Call::frame(0.5, 1024)]);
+    // As much as 64 joints need, one float less than these 400 do, and all.
+    let outputs = [16 * 64, 16 * 400 - 1, 16 * 400];
+    let one_frame = text(&outputs.map(|length| Call::frame(0.5, length)));
     vec![
         list("figure-empty", "11: no text at all", ""),
         list("figure-cut", "11: no LF at the end", BLEND.trim_end()),
@@ -107,7 +109,7 @@ pub fn unread_figures() -> Vec<List> {
         list("figure-too-long", "13: 65,537 bytes", &too_long),
         List::raw(
             "figure-longest",
-            "65,536 bytes are read and played",
+            "65,536 bytes, 400 joints, are read and played",
             longest,
             one_frame,
         ),
