@@ -25,9 +25,9 @@ impl Figure {
     /// The start's refusal, with a number of 1 to 7 or 14.
     ///
     /// ```
-    /// use gentianlathe::{Figure, Refusal};
+    /// use gentianlathe::{Figure, Refusal, ROOT};
     ///
-    /// let plan = vec![1, 1, 0, 1, 0, 255, 1, 0, 1, 0, 0, 0, 0, 0]; // the clip has 1 sample and loops (0)
+    /// let plan = vec![1, 1, 0, 1, 0, ROOT, 1, 0, 1, 0, 0, 0, 0, 0]; // the clip has 1 sample and loops (0)
     /// let numbers = vec![1.0, 1.0, 2.0, 3.0, 1.0, 1.0, 0.0, 0.0, 0.0];
     /// assert!(Figure::new(plan.clone(), numbers).is_ok());
     /// assert_eq!(Figure::new(plan, vec![]).unwrap_err(), Refusal::Numbers);

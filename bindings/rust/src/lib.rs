@@ -9,7 +9,7 @@
 //!
 //! # fn main() -> Result<(), gentianlathe::Refusal> {
 //! let text = b"figure,1,1,0,1,0\n\
-//!              joint,255\n\
+//!              joint,65535\n\
 //!              clip,1,3f800000,0\n\
 //!              state,1,0\n\
 //!              node,0,0,0,0\n\

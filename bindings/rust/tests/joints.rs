@@ -2,7 +2,7 @@
 
 mod common;
 
-use common::{bits, JOINT_COUNTS};
+use common::{bits, joint_counts};
 use gentianlathe::{Figure, Player, Refusal, MATRIX_FLOATS, MAX_JOINTS, ROOT};
 
 /// Marks a root too, in figures of at most 64 joints.
@@ -79,7 +79,7 @@ fn from_1_to_400_joints_in_a_text() {
 
 #[test]
 fn each_joint_hangs_on_its_parent() {
-    for joints in JOINT_COUNTS {
+    for joints in joint_counts() {
         let expected: Vec<f32> = (1..=joints).map(|depth| depth as f32).collect();
         let shown = depths(&figure(&chain(joints)).expect("a chain"));
         assert_eq!(shown, expected);
@@ -88,7 +88,7 @@ fn each_joint_hangs_on_its_parent() {
 
 #[test]
 fn roots_of_any_figure() {
-    for joints in JOINT_COUNTS {
+    for joints in joint_counts() {
         let shown = depths(&figure(&vec![ROOT; joints]).expect("roots alone"));
         assert_eq!(shown, vec![1.0; joints]);
     }
@@ -97,7 +97,7 @@ fn roots_of_any_figure() {
 /// 255 marks a root up to 64 joints. Above it is joint 255, which joints 0 to 255 cannot hang on.
 #[test]
 fn a_byte_marks_a_root_up_to_64_joints() {
-    for joints in JOINT_COUNTS {
+    for joints in joint_counts() {
         let edges = [0, 1, 31, 32, 63, 64, 254, 255];
         for joint in edges.into_iter().filter(|joint| *joint < joints) {
             let parents = with(chain(joints), joint, BYTE_ROOT);
@@ -137,7 +137,7 @@ fn joint_255_is_a_parent_like_any_other() {
 
 #[test]
 fn parents_that_are_neither() {
-    for joints in JOINT_COUNTS {
+    for joints in joint_counts() {
         for joint in [0, joints / 2, joints - 1] {
             for parent in [joint, joint + 1, 400, 65_534] {
                 let parents = with(chain(joints), joint, parent as u16);
@@ -170,7 +170,7 @@ fn is_too_short(figure: &Figure, length: usize) -> bool {
 
 #[test]
 fn an_output_of_16_floats_a_joint() {
-    for joints in JOINT_COUNTS {
+    for joints in joint_counts() {
         let figure = figure(&chain(joints)).expect("a chain");
         let length = 16 * joints;
         assert_eq!(figure.output_len(), length);

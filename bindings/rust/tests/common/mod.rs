@@ -1,15 +1,25 @@
 //! What the tests share: a random generator with a fixed seed, figures and players.
 #![allow(dead_code)]
 
-use gentianlathe::{ClipInstance, Figure, PlayerParts, Transition, ROOT};
+use gentianlathe::{ClipInstance, Figure, PlayerParts, Transition, MAX_JOINTS, ROOT};
 use std::fs;
 
 pub const PRINTED: &[u8] = include_bytes!("../../../../examples/printed.figure");
 
-/// Numbers of joints at the edges: of the blocks of 32 in which joints are evaluated, of the rule for 255, of a byte.
-pub const JOINT_COUNTS: [usize; 18] = [
-    1, 2, 31, 32, 33, 63, 64, 65, 96, 97, 254, 255, 256, 257, 288, 289, 399, 400,
-];
+/// Joints that are evaluated together.
+const BLOCK: usize = 32;
+
+/// Numbers of joints at the edges: the fewest, each multiple of a block and beside it, the most. Among them is
+/// where 255 stops marking a root (64 and 65), and where a byte stops numbering joints (255 to 257).
+pub fn joint_counts() -> Vec<usize> {
+    let multiples = (BLOCK..MAX_JOINTS).step_by(BLOCK);
+    let near = multiples.flat_map(|multiple| [multiple - 1, multiple, multiple + 1]);
+    let fewest = [1, 2].into_iter();
+    fewest
+        .chain(near)
+        .chain([MAX_JOINTS - 1, MAX_JOINTS])
+        .collect()
+}
 
 /// A small generator (xorshift64*), so that a failure comes again.
 pub struct Random(u64);
@@ -131,7 +141,7 @@ fn state(random: &mut Random, clips: usize, parameters: usize, states: usize) ->
 /// A random figure that a start accepts.
 pub fn random_figure(random: &mut Random) -> Figure {
     let joints = match random.below(4) {
-        0 => *random.pick(&JOINT_COUNTS),
+        0 => *random.pick(&joint_counts()),
         _ => random.between(1, 40),
     };
     let (clips, parameters, states) = (random.between(1, 3), random.below(4), random.between(1, 4));
