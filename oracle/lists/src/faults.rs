@@ -75,7 +75,7 @@ pub enum Fault {
 }
 
 impl Fault {
-    pub const ALL: [Fault; 65] = [
+    const OTHERS: [Fault; 52] = [
         Fault::ClockWithoutSpeed,
         Fault::SpeedLost,
         Fault::NeighbourSet,
@@ -128,6 +128,10 @@ impl Fault {
         Fault::EmptyBothSynchronised,
         Fault::OtherSynchronised,
         Fault::TextPauseRefused,
+    ];
+
+    /// Those about the number of joints, and about the words for a root.
+    pub const OF_JOINTS: [Fault; 13] = [
         Fault::ByteRootAt65,
         Fault::ByteRootLater,
         Fault::ByteRootRefused,
@@ -142,6 +146,10 @@ impl Fault {
         Fault::TextOldLimit,
         Fault::TextLimitPassed,
     ];
+
+    pub fn all() -> impl Iterator<Item = Fault> {
+        Fault::OTHERS.into_iter().chain(Fault::OF_JOINTS)
+    }
 }
 
 pub struct Faulty<'a> {

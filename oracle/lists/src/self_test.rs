@@ -44,7 +44,7 @@ fn judged(library: &dyn Evaluator, fault: Fault) -> Result<String, String> {
 
 pub fn self_test(library: &dyn Evaluator) -> bool {
     let mut passed = true;
-    for fault in [Fault::None].into_iter().chain(Fault::ALL) {
+    for fault in [Fault::None].into_iter().chain(Fault::all()) {
         match judged(library, fault) {
             Ok(how) => println!("self-test: {fault:?}: ok ({how})"),
             Err(why) => {

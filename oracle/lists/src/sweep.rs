@@ -147,21 +147,7 @@ mod tests {
             plans: 0,
             texts: 0,
         };
-        for fault in [
-            Fault::ByteRootAt65,
-            Fault::ByteRootLater,
-            Fault::ByteRootRefused,
-            Fault::RootRefused,
-            Fault::ByteParent,
-            Fault::ByteJoint,
-            Fault::OldJointLimit,
-            Fault::JointLimitPassed,
-            Fault::ShortOutputTaken,
-            Fault::LateJointsKept,
-            Fault::LastBlockKept,
-            Fault::TextOldLimit,
-            Fault::TextLimitPassed,
-        ] {
+        for fault in Fault::OF_JOINTS {
             let library = &Library;
             let (found, _) = compared(&Faulty { library, fault }, none, 0);
             assert!(!matches!(found, Found::Nothing), "{fault:?}");
