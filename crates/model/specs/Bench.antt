@@ -86,8 +86,11 @@ bench =
 unfoldable pub withParents : List ℕ → List ℕ
 withParents parents = length parents ∷ 1 ∷ 0 ∷ 1 ∷ 0 ∷ parents ++ 1 ∷ 0 ∷ 1 ∷ 0 ∷ 0 ∷ 0 ∷ 0 ∷ 0 ∷ []
 
-pub joints-400 : check (withParents (replicate 400 root)) (1 + 8 * 400) ≡ accepted
-unfolding check-opened withParents
+unfoldable pub fourHundred : List ℕ
+fourHundred = withParents (replicate 400 root)
+
+pub joints-400 : check fourHundred (1 + 8 * 400) ≡ accepted
+unfolding check-opened withParents fourHundred
 joints-400 = refl
 
 pub joints-401 : (n : ℕ) → check (withParents (replicate 401 root)) n ≡ refused 2 0 0

@@ -47,7 +47,8 @@ pub printed-example : printed exampleText ≡ exampleOutput
 unfolding all-opened reading-opened glyph digits places decimalText bitsText decimalFields bitsFields jointLine joined played printedFrom printed bytes exampleText exampleOutput
 printed-example = refl
 
--- Card 11, in refusal 11: after 400 joints the next line is asked for, which is missing here; 401 are refused at their own
+-- Card 11, in refusal 11: after 400 joints the next line is asked for, which is missing here; 401 are refused at their own. That a whole text of 400 is read
+-- follows from the round trip (round_trip's `joints-400-back`).
 pub joints-400-read : readFigure (bytes "figure,400,1,0,1,0\n") ≡ bad 2
 unfolding check-opened reading-opened bytes
 joints-400-read = refl

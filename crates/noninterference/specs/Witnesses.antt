@@ -15,13 +15,13 @@ use Rattle.model.specs.declared.Player.{Player}
 use Rattle.model.specs.declared.Outcome.{Outcome}
 use Rattle.model.specs.Numbers.{0f}
 use Rattle.model.specs.Answers.{accepted, unlessRefused}
-use Rattle.model.specs.Plan.{root, byteRoot, jointCount, isRoot, Rate, Value, Duration, PoseFloat}
+use Rattle.model.specs.Plan.{byteRoot, jointCount, isRoot, Rate, Value, Duration, PoseFloat}
 use Rattle.model.specs.Check.{check}
 use Rattle.model.specs.Controller.{withSpeed, updated, parameterSet, setVerdict, frameVerdict}
 use Rattle.model.specs.Skeleton.{written}
 use Rattle.model.specs.Run.{startVerdict, startPlayer, framePlayer, frameMatrices, Call, Update, Speed, Set, Frame}
 use Rattle.model.specs.Unseen.{Read}
-use Rattle.model.specs.Bench.{withParents}
+use Rattle.model.specs.Bench.{withParents, fourHundred}
 use Rattle.model.specs.Unused.{twoStates, unread, unused-unseen}
 use Rattle.model.specs.Laws.Opened.{check-opened}
 use Rattle.noninterference.specs.Alike.{Closed, UnseenAt, AlikeNumbers, AlikeCall, sets}
@@ -113,9 +113,6 @@ unfolding check-opened withParents twoRoots
 two-roots-unseen = record { name = PoseFloat 0 0 1 0; in-plan = (omega arith, omega arith, omega arith, omega arith); here = refl; unseen = inl (λ m. absurd (omega (arith, only 0 1 m))) }
 
 -- Card 11, 'chosen sets may include any of the 400': of 400 roots (`joints-400`) the last is chosen alone, and joint 0's translation x, at place 1, is unseen
-unfoldable pub fourHundred : List ℕ
-fourHundred = withParents (replicate 400 root)
-
 pub last-of-400-closed : Closed fourHundred (399 ∷ [])
 unfolding check-opened withParents fourHundred
 last-of-400-closed = root-closed fourHundred 399 (omega arith) refl

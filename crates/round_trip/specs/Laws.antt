@@ -12,3 +12,4 @@ pub mod Backward
 pub mod Patterns
 pub mod Refusals
 pub mod Longest
+pub mod Accepted

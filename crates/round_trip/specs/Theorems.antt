@@ -10,6 +10,7 @@ use Rattle.model.specs.declared.LineKind.the-variants.{Figure}
 use Rattle.model.specs.Plan.{maxPlan, word, jointCount, clipCount, parameterCount, stateCount}
 use Rattle.model.specs.Text.{maxWord, forms, got, readFigure, floatsOf}
 use Rattle.model.specs.Program.{part, figureText}
+use Rattle.model.specs.Answers.{accepted}
 use Rattle.model.specs.Run.{startVerdict}
 use Rattle.round_trip.specs.Laws.Fields.{maxPattern}
 use Rattle.round_trip.specs.Laws.Lines.{Within, most-getD}
@@ -21,6 +22,7 @@ use Rattle.round_trip.specs.Laws.Forward.{got-figure}
 use Rattle.round_trip.specs.Laws.Backward.{ends-figure, undone-figure}
 use Rattle.round_trip.specs.Laws.Refusals.{check-of}
 use Rattle.round_trip.specs.Laws.Longest.{plan-most}
+use Rattle.round_trip.specs.Laws.Accepted.{counted}
 
 -- what is written for a figure that a text can hold is read back
 pub reads-back : (plan bits : List ℕ) → Counted plan bits → Reads (figureText plan bits) plan bits
@@ -67,6 +69,12 @@ floats-back plan numbers ok fit =
       reads = reads-back plan bits record { counts = rw (length-map numbers (toBits binary32)) ok; patterns = patterns-below numbers fit };
       floats = floats-same numbers fit;
     }
+
+-- every figure that a start accepts can be written: its text is read back to its words and floats
+pub accepted-back : (plan : List ℕ) (numbers : List Float) → startVerdict plan numbers ≡ accepted → ((i : ℕ) → word plan i ≤ maxWord)
+    → ((i : ℕ) → i < length numbers → T (fits binary32 (getD numbers i nan))) → ReadsFloats (floatsText plan numbers) plan numbers
+unfolding startVerdict
+accepted-back plan numbers ok words fit = floats-back plan numbers (counted plan (length numbers) ok words) fit
 
 -- an accepted text's floats are written as that text, but for NaN patterns
 pub floats-written : (text ws bs rest : List ℕ) (n : ℕ) → readFigure text ≡ got ws bs rest n → WritesFloats text ws bs
