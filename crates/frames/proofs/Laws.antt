@@ -9,21 +9,17 @@ use borrow.Author.Tests.{le-ltb, lt-ltb, ltb-true, le-leb, lt-leb, leb-true}
 use Rattle.model.specs.declared.Answer.{Answer}
 use Rattle.model.specs.declared.Answer.the-variants as answer
 use Rattle.model.specs.declared.FrameKind.{FrameKind}
-use Rattle.model.specs.declared.FrameKind.the-variants.{Ordinary, Page}
-use Rattle.model.specs.declared.Outcome.{Outcome}
 use Rattle.model.specs.declared.Player.{Player}
 use Rattle.model.specs.Answers.{Verdict, accepted, refused, values, _then_, require, unlessRefused}
 use Rattle.model.specs.declared.Refusal.{Refusal}
-use Rattle.model.specs.Plan.{maxJoints, jointCount, stateCount, outputAt}
+use Rattle.model.specs.Plan.{jointCount, stateCount, outputAt}
 use Rattle.model.specs.Check.{check}
 use Rattle.model.specs.Controller.{withState, withTransition, withInstances, isTargetBelow, frameVerdict, nowAt, stepFrom, elapsed}
-use Rattle.model.specs.Skeleton.{jointMatrices, written}
-use Rattle.model.specs.Run.{shown, framePlayer, frameMatrices}
+use Rattle.model.specs.Run.{framePlayer, frameMatrices}
 use Rattle.model.specs.Promises.{Framed}
 use Rattle.model.specs.Laws.Answers.{then-left, then-right, require-true}
-use Rattle.model.specs.Laws.Passed.{few-joints, state-passed}
+use Rattle.model.specs.Laws.Passed.{state-passed}
 use Rattle.model.specs.Laws.Steps.{step-target-below, step-state-below}
-use Rattle.model.specs.Laws.Table.{table-length}
 use Rattle.layout.specs.declared.Layout.{Layout}
 use Rattle.layout.specs.declared.StateLayout.{StateLayout}
 use Rattle.layout.specs.Layout.{layoutOf, stateLayout}
@@ -33,7 +29,6 @@ use Rattle.plan.specs.declared.Checked.the-variants as checked
 use Rattle.transitions.specs.declared.Stepped.{Stepped}
 use Rattle.plan.specs.Checked.{verdict, layoutIn, PlanChecked}
 use Rattle.blend_tree.specs.Blocks.{Playable}
-use Rattle.skeleton.specs.Buffer.{Paged}
 use Rattle.transitions.specs.Step.{StepMade}
 use Rattle.output_pose.specs.Shown.{Shown}
 use Rattle.frames.specs.Parts.{playerOf, outcomeOf, FrameAnswered, FramePlayed}
@@ -64,10 +59,10 @@ module _ (plan : List ℕ) (numbers : List Float) (p : Player) (ext : Float) (r 
   still-target ok h t =
       subst (λ (q : Player). isTargetBelow (stateCount plan) (q .transition) ≡ true) step-is (step-target-below plan numbers p (nowAt p ext) (state-passed plan (length numbers) ok (p .state) h) (p .transition) refl t)
 
-  module _ (here : StateLayout) (there : here ≡ stateLayout plan (r .state)) (time : Float) (told : time ≡ elapsed p ext) (after old new : List Float)
-      (done : Shown plan numbers time (nowAt p ext) (here .state) (r .transition) (p .parameters) (p .instances) after old new) where
-    pub played : FramePlayed plan numbers p ext old new (withInstances after-step after)
-    unfolding framePlayer frameMatrices shown
+  module _ (kind : FrameKind) (here : StateLayout) (there : here ≡ stateLayout plan (r .state)) (time : Float) (told : time ≡ elapsed p ext) (after old new : List Float)
+      (done : Shown kind plan numbers time (nowAt p ext) (here .state) (r .transition) (p .parameters) (p .instances) after old new) where
+    pub played : FramePlayed kind plan numbers p ext old new (withInstances after-step after)
+    unfolding framePlayer frameMatrices
     played =
         record {
           player = rw (step-is, done .instances after-step (sym (same-state plan (r .state) there)) refl refl, told);
@@ -128,18 +123,18 @@ module _ (l : Layout) (parts : Parts) (n : ℕ) (a : Answer) where
           record { answer = λ plan numbers _ _ ok. e ∙ sym (rw (ok .passed, ← states-found plan (ok .found), lt-ltb (parts .state) (l .states) h, ← told, t, ← joints-found plan (ok .found), ← end, le-leb at n f)) }
 
 -- the promise of a refused frame of either kind, with the parts as they were, and of an accepted one
-module _ (plan : List ℕ) (numbers : List Float) (parts : Parts) (parameters instances : List Float) (ext : Float) where
+module _ (kind : FrameKind) (plan : List ℕ) (numbers : List Float) (parts : Parts) (parameters instances : List Float) (ext : Float) where
   abbrev lent : Player
   lent = playerOf parts parameters instances
 
   frame-refused : (old : List Float) (a : Answer) (k m n : ℕ) → frameVerdict plan numbers lent (length old) ≡ refused k m n → values a ≡ refused k m n
-      → (r : FrameParts) → (r .answer ≡ a) × (r .state ≡ parts .state) × (r .transition ≡ parts .transition) → Framed Ordinary plan numbers lent ext old old (outcomeOf parts r parameters instances)
+      → (r : FrameParts) → (r .answer ≡ a) × (r .state ≡ parts .state) × (r .transition ≡ parts .transition) → Framed kind plan numbers lent ext old old (outcomeOf parts r parameters instances)
   unfolding unlessRefused
   frame-refused old a k m n v e r same = record { answer = ap values (same .0) ∙ e ∙ sym v; player = rw (v, same .1, same .2); output = rw v }
 
   -- a check's refusal is handed on
   pub check-handed : (old : List Float) (k : Checked) → PlanChecked plan (length numbers) k → (x : Refusal) → k ≡ checked.Refused x → (a : Answer) → values a ≡ verdict k
-      → (r : FrameParts) → (r .answer ≡ a) × (r .state ≡ parts .state) × (r .transition ≡ parts .transition) → Framed Ordinary plan numbers lent ext old old (outcomeOf parts r parameters instances)
+      → (r : FrameParts) → (r .answer ≡ a) × (r .state ≡ parts .state) × (r .transition ≡ parts .transition) → Framed kind plan numbers lent ext old old (outcomeOf parts r parameters instances)
   unfolding verdict
   check-handed old k done x e a told =
       frame-refused old a (x .number) (x .place) 0 (check-refuses plan numbers lent (length old) (x .number) (x .place) 0 (sym (done .answer) ∙ ap verdict e)) (told ∙ ap verdict e)
@@ -149,7 +144,7 @@ module _ (plan : List ℕ) (numbers : List Float) (parts : Parts) (parameters in
     answer-is = answered .answer plan numbers parameters instances ok
 
     pub frame-handed : (x : Refusal) → a ≡ answer.Refused x
-        → (r : FrameParts) → (r .answer ≡ a) × (r .state ≡ parts .state) × (r .transition ≡ parts .transition) → Framed Ordinary plan numbers lent ext old old (outcomeOf parts r parameters instances)
+        → (r : FrameParts) → (r .answer ≡ a) × (r .state ≡ parts .state) × (r .transition ≡ parts .transition) → Framed kind plan numbers lent ext old old (outcomeOf parts r parameters instances)
     unfolding values
     frame-handed x e = frame-refused old a (x .number) (x .place) 0 (sym answer-is ∙ ap values e) (ap values e)
 
@@ -158,35 +153,6 @@ module _ (plan : List ℕ) (numbers : List Float) (parts : Parts) (parameters in
       unfolding values
       now-accepted = sym answer-is ∙ ap values e
 
-      pub frame-accepted : (new : List Float) (q : Player) → FramePlayed plan numbers lent ext old new q → Framed Ordinary plan numbers lent ext old new (record { answer = a; player = q })
+      pub frame-accepted : (new : List Float) (q : Player) → FramePlayed kind plan numbers lent ext old new q → Framed kind plan numbers lent ext old new (record { answer = a; player = q })
       unfolding unlessRefused
       frame-accepted new q done = record { answer = answer-is; player = rw now-accepted (done .player); output = rw now-accepted (done .output) }
-
--- ---- a frame of either kind, from the ordinary one
-
-module _ (plan : List ℕ) (numbers : List Float) (p : Player) (ext : Float) (old mid : List Float) (r : Outcome) (done : Framed Ordinary plan numbers p ext old mid r) where
-  pub kind-refused : (kind : FrameKind) (x : Refusal) → r .answer ≡ answer.Refused x → Framed kind plan numbers p ext old mid r
-  unfolding values unlessRefused
-  kind-refused kind x e =
-      let v : frameVerdict plan numbers p (length old) ≡ refused (x .number) (x .place) 0 = sym (done .answer) ∙ ap values e in
-      record { answer = done .answer; player = done .player; output = rw v (rw v at (done .output)) }
-
-  module _ (e : r .answer ≡ answer.Accepted) where
-    accepted-frame : frameVerdict plan numbers p (length old) ≡ accepted
-    unfolding values
-    accepted-frame = sym (done .answer) ∙ ap values e
-
-    pub page-joints : jointCount plan ≤ maxJoints
-    page-joints = few-joints plan (length numbers) (frame-passed plan numbers p (length old) accepted-frame)
-
-    pub page-fits : length mid ≡ length old → outputAt (jointCount plan) ≤ length mid
-    page-fits h = rw h (frame-fits plan numbers p (length old) accepted-frame)
-
-    pub page-accepted : (new : List Float) → Paged (jointCount plan) mid new → Framed Page plan numbers p ext old new r
-    unfolding unlessRefused frameMatrices shown written jointMatrices
-    page-accepted new paged =
-        record {
-          answer = done .answer;
-          player = done .player;
-          output = rw accepted-frame (paged .turned _ _ (table-length _ (jointCount plan)) (rw accepted-frame at (done .output)));
-        }

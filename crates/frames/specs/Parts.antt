@@ -5,7 +5,6 @@ use mathlib.Core.List.{List}
 use lib.Ieee.{Float}
 use Rattle.model.specs.declared.Answer.{Answer}
 use Rattle.model.specs.declared.FrameKind.{FrameKind}
-use Rattle.model.specs.declared.FrameKind.the-variants.{Ordinary}
 use Rattle.model.specs.declared.Player.{Player}
 use Rattle.model.specs.declared.Outcome.{Outcome}
 use Rattle.model.specs.declared.Transition.{Transition}
@@ -43,6 +42,6 @@ pub record FrameAnswered (layout : Layout) (parts : Parts) (outputLength : ℕ) 
       → values r ≡ frameVerdict plan numbers (playerOf parts parameters instances) outputLength
 
 -- a frame that nothing refuses: p becomes q, and the output changes from `old` to `new`
-pub record FramePlayed (plan : List ℕ) (numbers : List Float) (p : Player) (ext : Float) (old new : List Float) (q : Player) : Type 0 where
+pub record FramePlayed (kind : FrameKind) (plan : List ℕ) (numbers : List Float) (p : Player) (ext : Float) (old new : List Float) (q : Player) : Type 0 where
   pub player : q ≡ framePlayer plan numbers p ext
-  pub output : new ≡ written plan (frameMatrices plan numbers p ext Ordinary) old
+  pub output : new ≡ written plan (frameMatrices plan numbers p ext kind) old

@@ -3,11 +3,9 @@
 use blend_tree::StateAt;
 use blend_tree::synchronize::plays_samples;
 use float::narrow;
-use layout::JOINT_COUNT_AT;
 use layout::Layout;
 use layout::StateLayout;
 use layout::state_layout;
-use layout::word;
 use model::Answer;
 use model::FrameKind;
 use model::Transition;
@@ -19,14 +17,12 @@ use output_pose::show_joint;
 use plan::Checked;
 use plan::answer_of;
 use plan::check;
-use skeleton::make_page_matrices;
 use skeleton::output_at;
 use transitions::Stepped;
 use transitions::step;
 ghost use mathlib.Core.Path.{_≡_};
 ghost use mathlib.Core.Bool.{true};
 ghost use Prim.Native.Nat.{_<_, _≤_};
-ghost use Rattle.model.specs.declared.FrameKind.the-variants.{Ordinary};
 ghost use Rattle.model.specs.declared.Transition.the-variants as Transition;
 ghost use Rattle.model.specs.Plan.{maxJoints, stateCount};
 ghost use Rattle.model.specs.Tree.{playsSamples};
@@ -103,6 +99,7 @@ fn is_single(plan: &[u16], layout: Layout, here: StateLayout, transition: Transi
 
 // Steps 1 to 3 of a frame that nothing refuses.
 fn play(
+    kind: FrameKind,
     plan: &[u16],
     numbers: &[f32],
     layout: Layout,
@@ -119,7 +116,7 @@ fn play(
         × HasRoom (now plan) (now output)
         ⌝ }
     ensures { λ r. ⌜
-        FramePlayed (now (plan .entry)) (now (numbers .entry))
+        FramePlayed kind (now (plan .entry)) (now (numbers .entry))
         (playerOf parts (now (parameters .entry)) (now (instances .entry)))
         ext (now (output .entry)) (now (output .exit))
         (playerOf (moved parts (r .state) (r .transition)) (now (parameters .entry)) (now (instances .exit)))
@@ -138,10 +135,11 @@ fn play(
         time: narrow(clock + ext * speed),
     };
     if is_single(plan, layout, state.here, next) {
-        show_joint(plan, numbers, state, instances, output);
+        show_joint(kind, plan, numbers, state, instances, output);
         return stepped;
     }
     show(
+        kind,
         plan,
         numbers,
         state,
@@ -184,48 +182,7 @@ fn frame_answer(layout: Layout, parts: Parts, length: usize) -> Answer
     Answer::Accepted
 }
 
-fn ordinary_frame(
-    plan: &[u16],
-    numbers: &[f32],
-    parts: Parts,
-    parameters: &[f32; MAX_PARAMETERS],
-    instances: &mut [f32; MAX_INSTANCES],
-    ext: f64,
-    output: &mut [f32],
-) -> FrameParts
-    ensures { λ r. ⌜
-        FramedParts Ordinary (now (plan .entry)) (now (numbers .entry)) parts (now (parameters .entry)) ext
-        (now (instances .entry)) (now (instances .exit)) (now (output .entry)) (now (output .exit)) r
-        ⌝ }
-{
-    let checked = check(plan, numbers.len());
-    let Checked::Passed(layout) = checked else {
-        return kept(answer_of(checked), parts);
-    };
-    let answer = frame_answer(layout, parts, output.len());
-    let Answer::Accepted = answer else {
-        return kept(answer, parts);
-    };
-    let stepped = play(
-        plan,
-        numbers,
-        layout,
-        parts,
-        parameters,
-        instances,
-        ext,
-        output,
-    );
-    let next = stepped.transition;
-    FrameParts {
-        answer: answer,
-        state: stepped.state,
-        transition: next,
-    }
-}
-
-// A frame; of a page frame each matrix's upper 3×3 is then transposed. One function for both, so that the compiler can
-// inline the work.
+// One function for both kinds, so that the compiler can inline the work.
 pub fn frame(
     kind: FrameKind,
     plan: &[u16],
@@ -241,14 +198,29 @@ pub fn frame(
         (now (instances .entry)) (now (instances .exit)) (now (output .entry)) (now (output .exit)) r
         ⌝ }
 {
-    let framed = ordinary_frame(plan, numbers, parts, parameters, instances, ext, output);
-    let answer = framed.answer;
-    let Answer::Accepted = answer else {
-        return framed;
+    let checked = check(plan, numbers.len());
+    let Checked::Passed(layout) = checked else {
+        return kept(answer_of(checked), parts);
     };
-    match kind {
-        FrameKind::Ordinary => {}
-        FrameKind::Page => make_page_matrices(word(plan, JOINT_COUNT_AT), output),
+    let answer = frame_answer(layout, parts, output.len());
+    let Answer::Accepted = answer else {
+        return kept(answer, parts);
+    };
+    let stepped = play(
+        kind,
+        plan,
+        numbers,
+        layout,
+        parts,
+        parameters,
+        instances,
+        ext,
+        output,
+    );
+    let next = stepped.transition;
+    FrameParts {
+        answer: answer,
+        state: stepped.state,
+        transition: next,
     }
-    framed
 }

@@ -7,13 +7,12 @@ use Rattle.model.specs.declared.Player.{Player}
 use Rattle.model.specs.declared.Transition.{Transition}
 use Rattle.model.specs.declared.Matrix4.{Matrix4}
 use Rattle.model.specs.declared.FrameKind.{FrameKind}
-use Rattle.model.specs.declared.FrameKind.the-variants.{Ordinary, Page}
 use Rattle.model.specs.Answers.{Verdict, accepted, unlessRefused}
 use Rattle.model.specs.Rotations.{identityMatrix, floats}
 use Rattle.model.specs.Plan.{jointCount}
 use Rattle.model.specs.Check.{check}
 use Rattle.model.specs.Controller.{blank, withSpeed, fresh, updated, parameterSet, setVerdict, frameVerdict, nowAt, stepped, elapsed, synchronized, jointPose}
-use Rattle.model.specs.Skeleton.{jointMatrices, pageMatrix}
+use Rattle.model.specs.Skeleton.{jointMatrices}
 
 -- ---- start: the answer and the player
 
@@ -25,11 +24,6 @@ startPlayer plan numbers = unlessRefused (startVerdict plan numbers) (fresh plan
 
 -- ---- a frame and a page frame: the player and the matrices of an accepted one
 
--- what a kind of frame makes of the finished matrices
-unfoldable pub shown : FrameKind → List Matrix4 → List Matrix4
-shown Ordinary ms = ms
-shown Page ms = map pageMatrix ms
-
 module _ (plan : List ℕ) (numbers : List Float) (p : Player) (ext : Float) where
   -- step 1
   abbrev pub frameStepped : Player
@@ -39,7 +33,7 @@ module _ (plan : List ℕ) (numbers : List Float) (p : Player) (ext : Float) whe
   framePlayer = synchronized plan numbers (elapsed p ext) frameStepped
 
   unfoldable pub frameMatrices : FrameKind → List Matrix4
-  frameMatrices kind = shown kind (jointMatrices plan (jointPose plan numbers (elapsed p ext) frameStepped (nowAt p ext)) (jointCount plan))
+  frameMatrices kind = jointMatrices kind plan (jointPose plan numbers (elapsed p ext) frameStepped (nowAt p ext)) (jointCount plan)
 
 -- ---- calls
 

@@ -86,7 +86,7 @@ pub enum Winner {
     Nothing,
 }
 
-// Of a frame: what is made of each joint's matrix.
+// Of a frame: what each joint's own matrix is, before its parent's is multiplied on.
 pub enum FrameKind {
     Ordinary,
     Page,

@@ -6,6 +6,7 @@ use mathlib.Core.Bool.{Bool, true, false}
 use mathlib.Core.List.{List}
 use lib.Ieee.{Float}
 use borrow.Author.Tests.{eqb-true}
+use Rattle.model.specs.declared.FrameKind.{FrameKind}
 use Rattle.model.specs.declared.Pose.{Pose}
 use Rattle.model.specs.declared.ClipInstance.{ClipInstance}
 use Rattle.model.specs.declared.Transition.{Transition}
@@ -15,7 +16,7 @@ use Rattle.model.specs.Pose.{toMatrix}
 use Rattle.model.specs.Plan.{maxClipNodes, jointCount, nodeCount, isClip}
 use Rattle.model.specs.Clips.{localTime, instanceAt, clipPose}
 use Rattle.model.specs.Tree.{isTouched, synchronizeNode, synchronizeNodes, synchronize, statePose}
-use Rattle.model.specs.Skeleton.{written}
+use Rattle.model.specs.Skeleton.{ownMatrix, written}
 use Rattle.model.specs.Laws.State.{a-earlier, few-clip-nodes}
 use Rattle.model.specs.Laws.ClipNodes.{first-clip-node}
 use Rattle.layout.specs.declared.Layout.{Layout}
@@ -59,10 +60,10 @@ module _ {plan : List ℕ} {numbers : List Float} {layout : Layout} {here : Stat
   alone parameters time instances = rw (counted, untouched)
 
   -- so what is shown of it is what an idle player shows, whatever its parameters
-  pub shown-alone : (parameters : List Float) (time instant : Float) (t : Transition) (instances old new : List Float) → t ≡ Idle → JointShown plan numbers time (here .state) instances old new
-      → Shown plan numbers time instant (here .state) t parameters instances instances old new
-  shown-alone parameters time instant t instances old new idle s =
-      shown-idle plan numbers time instant (here .state) parameters instances old t instances new idle (record { instances = alone parameters time instances; output = s .output parameters })
+  pub shown-alone : (kind : FrameKind) (parameters : List Float) (time instant : Float) (t : Transition) (instances old new : List Float) → t ≡ Idle → JointShown kind plan numbers time (here .state) instances old new
+      → Shown kind plan numbers time instant (here .state) t parameters instances instances old new
+  shown-alone kind parameters time instant t instances old new idle s =
+      shown-idle kind plan numbers time instant (here .state) parameters instances old t instances new idle (record { instances = alone parameters time instances; output = s .output parameters })
 
   -- the state's pose is its clip's
   pub only-pose : {words : Node} {instance : ClipInstance} → words ≡ nodeOf plan (here .state) 0 → (time : Float) (instances : List Float)
@@ -74,10 +75,10 @@ module _ {plan : List ℕ} {numbers : List Float} {layout : Layout} {here : Stat
       ∙ rw one at (root-pose inside ok parameters time instances j)
 
 -- a skeleton of one joint
-pub joint-shown : (plan : List ℕ) (numbers : List Float) (time : Float) (state : ℕ) (instances old new : List Float) (pose : Pose) → jointCount plan ≡ 1
+pub joint-shown : (kind : FrameKind) (plan : List ℕ) (numbers : List Float) (time : Float) (state : ℕ) (instances old new : List Float) (pose : Pose) → jointCount plan ≡ 1
     → ((parameters : List Float) → pose ≡ statePose plan numbers parameters time state instances 0)
-    → new ≡ stored old 0 (floats (product identityMatrix (toMatrix pose)))
-    → JointShown plan numbers time state instances old new
+    → new ≡ stored old 0 (floats (product identityMatrix (ownMatrix kind (toMatrix pose))))
+    → JointShown kind plan numbers time state instances old new
 unfolding jointsWritten written
-joint-shown plan numbers time state instances old new pose one p e =
-    record { output = λ parameters. rw (one, e, p parameters) (root-written plan (statePose plan numbers parameters time state instances) old) }
+joint-shown kind plan numbers time state instances old new pose one p e =
+    record { output = λ parameters. rw (one, e, p parameters) (root-written kind plan (statePose plan numbers parameters time state instances) old) }

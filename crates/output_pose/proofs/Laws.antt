@@ -9,6 +9,7 @@ use lib.ListN.{length}
 use lib.Ieee.{Float}
 use borrow.Author.Tests.{ltb-true}
 use denote.Enum.Declared.{tagOf}
+use Rattle.model.specs.declared.FrameKind.{FrameKind}
 use Rattle.model.specs.declared.Pose.{Pose}
 use Rattle.model.specs.declared.Transition.{Transition}
 use Rattle.model.specs.declared.Transition.the-variants.{Idle, Running}
@@ -63,8 +64,8 @@ target-known r i e =
     rw (t .0) ((r .playable, t .1, t .2), i)
 
 -- what a loop over blocks keeps: the matrices of the joints below `first` are written over the old output
-pub record Through (plan : List ℕ) (layout : Layout) (poseOf : ℕ → Pose) (old new : List Float) (first : ℕ) : Type 0 where
-  pub so-far : new ≡ jointsWritten plan poseOf first old
+pub record Through (kind : FrameKind) (plan : List ℕ) (layout : Layout) (poseOf : ℕ → Pose) (old new : List Float) (first : ℕ) : Type 0 where
+  pub so-far : new ≡ jointsWritten kind plan poseOf first old
   pub kept : length new ≡ length old
   pub most : first ≤ layout .joints
 
@@ -72,17 +73,17 @@ pub record Through (plan : List ℕ) (layout : Layout) (poseOf : ℕ → Pose) (
 abbrev Next : Layout → ℕ → ℕ → Type 0
 Next layout first count = (0 < count) × (count ≤ blockSize) × (first + count ≤ layout .joints)
 
-module _ {plan : List ℕ} {layout : Layout} {poseOf : ℕ → Pose} {old : List Float} where
-  pub through-none : Through plan layout poseOf old old 0
+module _ {kind : FrameKind} {plan : List ℕ} {layout : Layout} {poseOf : ℕ → Pose} {old : List Float} where
+  pub through-none : Through kind plan layout poseOf old old 0
   unfolding jointsWritten jointMatrices tableTo flat
   through-none = record { so-far = refl; kept = refl; most = omega arith }
 
-  module _ {new : List Float} {first : ℕ} (t : Through plan layout poseOf old new first) where
-    pub through-next : {block after : List Float} {count : ℕ} → Next layout first count → GlobalPoses plan block first count new after
-        → Filled (λ i. poseOf (first + i)) count block → length after ≡ length new → Through plan layout poseOf old after (first + count)
+  module _ {new : List Float} {first : ℕ} (t : Through kind plan layout poseOf old new first) where
+    pub through-next : {block after : List Float} {count : ℕ} → Next layout first count → GlobalPoses kind plan block first count new after
+        → Filled (λ i. poseOf (first + i)) count block → length after ≡ length new → Through kind plan layout poseOf old after (first + count)
     through-next n g f e = record { so-far = g .written poseOf f old (t .so-far); kept = e ∙ t .kept; most = n .2 }
 
-    pub through-all : {numbers : List Float} → Playable plan numbers layout → layout .joints ≤ first → new ≡ skeletonOf plan poseOf old
+    pub through-all : {numbers : List Float} → Playable plan numbers layout → layout .joints ≤ first → new ≡ skeletonOf kind plan poseOf old
     unfolding jointsWritten written
     through-all ok h = let e : first ≡ jointCount plan = omega (arith, joints-found plan (ok .found)) in rw e at (t .so-far)
 
@@ -109,15 +110,15 @@ module _ {plan : List ℕ} {numbers : List Float} {state : StateAt} {target : �
       → TargetSynchronized plan numbers state target factor parameters targetSlots before after r → Ready plan numbers state r slots targetSlots
   ready-towards s t = rw (t .blend) (record { playable = s .0; inside = s .1; filled = s .2; target = t .ready })
 
-  pub blended-to : {old new : List Float} → TargetSynchronized plan numbers state target factor parameters targetSlots before after r
-      → new ≡ skeletonOf plan (λ j. shownPose plan numbers parameters before after j state r) old
-      → Blended plan numbers (state .time) factor (state .here .state) target parameters before after old new
+  pub blended-to : {kind : FrameKind} {old new : List Float} → TargetSynchronized plan numbers state target factor parameters targetSlots before after r
+      → new ≡ skeletonOf kind plan (λ j. shownPose plan numbers parameters before after j state r) old
+      → Blended kind plan numbers (state .time) factor (state .here .state) target parameters before after old new
   unfolding shownPose
   blended-to t e = record { instances = t .instances; output = rw (t .blend, t .number, t .time) at e }
 
-module _ (plan : List ℕ) (numbers : List Float) (time instant : Float) (state : ℕ) (parameters before old : List Float) where
-  pub shown-idle : (t : Transition) (after new : List Float) → t ≡ Idle → StateShown plan numbers time state parameters before after old new
-      → Shown plan numbers time instant state t parameters before after old new
+module _ (kind : FrameKind) (plan : List ℕ) (numbers : List Float) (time instant : Float) (state : ℕ) (parameters before old : List Float) where
+  pub shown-idle : (t : Transition) (after new : List Float) → t ≡ Idle → StateShown kind plan numbers time state parameters before after old new
+      → Shown kind plan numbers time instant state t parameters before after old new
   unfolding currentInstances instancesIn currentPose poseIn
   shown-idle t after new e s =
       record { instances = λ p a b c. rw (e, a, b, c) (s .instances); output = λ p a b c. rw (e, a, b, c, ← s .instances) (s .output) }
@@ -125,8 +126,8 @@ module _ (plan : List ℕ) (numbers : List Float) (time instant : Float) (state 
   pub shown-running : (t : Transition) (start duration factor : Float) (target : ℕ) (current after new : List Float)
       → t ≡ Running start target duration → factor ≡ transitionFactor instant start duration
       → current ≡ synchronize plan numbers parameters time state before
-      → Blended plan numbers time factor state target parameters current after old new
-      → Shown plan numbers time instant state t parameters before after old new
+      → Blended kind plan numbers time factor state target parameters current after old new
+      → Shown kind plan numbers time instant state t parameters before after old new
   unfolding currentInstances targetInstances instancesIn currentPose targetPose poseIn
   shown-running t start duration factor target current after new e f g b =
       record { instances = λ p x y z. rw (e, x, y, z, ← g) (b .instances); output = λ p x y z. rw (e, x, y, z, ← g, ← b .instances, ← f) (b .output) }

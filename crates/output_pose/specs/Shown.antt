@@ -3,6 +3,7 @@ use Prim.Native.Nat.{ℕ}
 use mathlib.Core.Path.{_≡_}
 use mathlib.Core.List.{List}
 use lib.Ieee.{Float}
+use Rattle.model.specs.declared.FrameKind.{FrameKind}
 use Rattle.model.specs.declared.Player.{Player}
 use Rattle.model.specs.declared.Pose.{Pose}
 use Rattle.model.specs.declared.Transition.{Transition}
@@ -19,8 +20,8 @@ use Rattle.output_pose.specs.declared.Blend.{Blend}
 use Rattle.output_pose.specs.declared.Blend.the-variants.{Alone, Towards}
 
 -- the whole output, from the joints' poses
-abbrev pub skeletonOf : List ℕ → (ℕ → Pose) → List Float → List Float
-skeletonOf plan poseOf old = written plan (jointMatrices plan poseOf (jointCount plan)) old
+abbrev pub skeletonOf : FrameKind → List ℕ → (ℕ → Pose) → List Float → List Float
+skeletonOf kind plan poseOf old = written plan (jointMatrices kind plan poseOf (jointCount plan)) old
 
 -- ---- a state, blended towards another or not
 
@@ -44,13 +45,13 @@ pub record Ready (plan : List ℕ) (numbers : List Float) (state : StateAt) (ble
 -- ---- what is shown
 
 -- the output shows a state that reads no parameter
-pub record JointShown (plan : List ℕ) (numbers : List Float) (time : Float) (state : ℕ) (instances old new : List Float) : Type 0 where
-  pub output : (parameters : List Float) → new ≡ skeletonOf plan (statePose plan numbers parameters time state instances) old
+pub record JointShown (kind : FrameKind) (plan : List ℕ) (numbers : List Float) (time : Float) (state : ℕ) (instances old new : List Float) : Type 0 where
+  pub output : (parameters : List Float) → new ≡ skeletonOf kind plan (statePose plan numbers parameters time state instances) old
 
 -- a state by itself is synchronised, and the output shows it
-pub record StateShown (plan : List ℕ) (numbers : List Float) (time : Float) (state : ℕ) (parameters before after old new : List Float) : Type 0 where
+pub record StateShown (kind : FrameKind) (plan : List ℕ) (numbers : List Float) (time : Float) (state : ℕ) (parameters before after old new : List Float) : Type 0 where
   pub instances : after ≡ synchronize plan numbers parameters time state before
-  pub output : new ≡ skeletonOf plan (statePose plan numbers parameters time state after) old
+  pub output : new ≡ skeletonOf kind plan (statePose plan numbers parameters time state after) old
 
 -- a target is synchronised on top of `before`, and r blends the state towards it by a factor
 pub record TargetSynchronized (plan : List ℕ) (numbers : List Float) (state : StateAt) (target : ℕ) (factor : Float) (parameters : List Float) (slots : List ℕ) (before after : List Float) (r : Blend) : Type 0 where
@@ -62,12 +63,12 @@ pub record TargetSynchronized (plan : List ℕ) (numbers : List Float) (state : 
   pub instances : after ≡ synchronize plan numbers parameters (state .time) target before
 
 -- a state on its way to another by a factor: the other is synchronised on top of `before`, and the output shows both, blended
-pub record Blended (plan : List ℕ) (numbers : List Float) (time factor : Float) (state target : ℕ) (parameters before after old new : List Float) : Type 0 where
+pub record Blended (kind : FrameKind) (plan : List ℕ) (numbers : List Float) (time factor : Float) (state target : ℕ) (parameters before after old new : List Float) : Type 0 where
   pub instances : after ≡ synchronize plan numbers parameters time target before
-  pub output : new ≡ skeletonOf plan (λ j. lerp (statePose plan numbers parameters time state before j) (statePose plan numbers parameters time target after j) factor) old
+  pub output : new ≡ skeletonOf kind plan (λ j. lerp (statePose plan numbers parameters time state before j) (statePose plan numbers parameters time target after j) factor) old
 
 -- for every player with these parts: its instances are synchronised, and the output shows its poses
-pub record Shown (plan : List ℕ) (numbers : List Float) (time instant : Float) (state : ℕ) (transition : Transition) (parameters before after old new : List Float) : Type 0 where
+pub record Shown (kind : FrameKind) (plan : List ℕ) (numbers : List Float) (time instant : Float) (state : ℕ) (transition : Transition) (parameters before after old new : List Float) : Type 0 where
   pub instances : (p : Player) → p .state ≡ state → p .parameters ≡ parameters → p .instances ≡ before → after ≡ instancesIn plan numbers time p transition
   pub output : (p : Player) → p .state ≡ state → p .parameters ≡ parameters → p .instances ≡ before
-      → new ≡ skeletonOf plan (λ j. poseIn plan numbers time p instant j transition) old
+      → new ≡ skeletonOf kind plan (λ j. poseIn plan numbers time p instant j transition) old

@@ -17,6 +17,7 @@ use lanes::BLOCK_FLOATS;
 use lanes::BLOCK_SIZE;
 use layout::node_at;
 use layout::state_layout;
+use model::FrameKind;
 use model::Transition;
 use model::limits::MAX_INSTANCES;
 use model::limits::MAX_PARAMETERS;
@@ -106,6 +107,7 @@ fn block_length(joints: usize, first: usize) -> usize
 
 // All joints, block by block.
 fn show_blocks(
+    kind: FrameKind,
     plan: &[u16],
     numbers: &[f32],
     state: StateAt,
@@ -123,7 +125,7 @@ fn show_blocks(
         ⌝ }
     ensures { λ _. ⌜
         now (output .exit)
-        ≡ skeletonOf (now (plan .entry))
+        ≡ skeletonOf kind (now (plan .entry))
         (λ j. shownPose (now (plan .entry)) (now (numbers .entry)) (now (parameters .entry))
         (now (current .entry)) (now (instances .entry)) j state blend)
         (now (output .entry))
@@ -147,13 +149,14 @@ fn show_blocks(
             Joints { first, count },
             &mut block,
         );
-        calculate_global_poses(plan, &block, first, count, output);
+        calculate_global_poses(kind, plan, &block, first, count, output);
         first += count;
     }
 }
 
 // A figure of one joint in a state of one clip that has samples. It needs no block, and is not synchronised.
 pub fn show_joint(
+    kind: FrameKind,
     plan: &[u16],
     numbers: &[f32],
     state: StateAt,
@@ -168,7 +171,7 @@ pub fn show_joint(
         × HasRoom (now plan) (now output)
         ⌝ }
     ensures { λ _. ⌜
-        JointShown (now (plan .entry)) (now (numbers .entry)) (state .time) (state .here .state)
+        JointShown kind (now (plan .entry)) (now (numbers .entry)) (state .time) (state .here .state)
         (now (instances .entry)) (now (output .entry)) (now (output .exit))
         ⌝ }
 {
@@ -177,7 +180,7 @@ pub fn show_joint(
     let clip = clip_at(plan, numbers, state.layout, number);
     let position = clip_position(clip, instance, state.time);
     let samples = clip_samples(clip, position);
-    calculate_root_pose(joint_pose(numbers, state.layout, samples, 0), output);
+    calculate_root_pose(kind, joint_pose(numbers, state.layout, samples, 0), output);
 }
 
 // ---- synchronising
@@ -217,6 +220,7 @@ pub fn synchronize_target(
 // A state on its way to another. It shows itself by the instances that it had before the other's rates were set, as
 // the Rust does.
 fn show_transition(
+    kind: FrameKind,
     plan: &[u16],
     numbers: &[f32],
     state: StateAt,
@@ -233,7 +237,7 @@ fn show_transition(
         × HasRoom (now plan) (now output)
         ⌝ }
     ensures { λ _. ⌜
-        Blended (now (plan .entry)) (now (numbers .entry)) (state .time) factor (state .here .state) target
+        Blended kind (now (plan .entry)) (now (numbers .entry)) (state .time) factor (state .here .state) target
         (now (parameters .entry)) (now (instances .entry)) (now (instances .exit))
         (now (output .entry)) (now (output .exit))
         ⌝ }
@@ -251,6 +255,7 @@ fn show_transition(
         instances,
     );
     show_blocks(
+        kind,
         plan,
         numbers,
         state,
@@ -266,6 +271,7 @@ fn show_transition(
 
 // A state and its transition, if one is under way.
 pub fn show(
+    kind: FrameKind,
     plan: &[u16],
     numbers: &[f32],
     state: StateAt,
@@ -281,7 +287,7 @@ pub fn show(
         × HasRoom (now plan) (now output)
         ⌝ }
     ensures { λ _. ⌜
-        Shown (now (plan .entry)) (now (numbers .entry)) (state .time) instant (state .here .state) transition
+        Shown kind (now (plan .entry)) (now (numbers .entry)) (state .time) instant (state .here .state) transition
         (now (parameters .entry)) (now (instances .entry)) (now (instances .exit))
         (now (output .entry)) (now (output .exit))
         ⌝ }
@@ -296,6 +302,7 @@ pub fn show(
     else {
         let blend = Blend::Alone;
         show_blocks(
+            kind,
             plan,
             numbers,
             state,
@@ -311,6 +318,7 @@ pub fn show(
     };
     let factor = transition_factor(instant, start, duration);
     show_transition(
+        kind,
         plan,
         numbers,
         state,

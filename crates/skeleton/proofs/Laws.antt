@@ -1,26 +1,27 @@
 -- Matrices one after the other in the output: how one is stored and read back, and what a turn of each loop adds. Assumes nothing.
 use Prim.Native.Nat.{ℕ, zero, suc, _+_, _*_, _≤_, _<_}
-use mathlib.Core.Path.{_≡_, refl, ap, sym, _∙_}
+use mathlib.Core.Path.{_≡_, refl, ap, _∙_}
 use mathlib.Core.Bool.{Bool, true, false, cond}
-use mathlib.Core.List.{List, [], _∷_, _++_, map, append-assoc, append-nil, map-append}
+use mathlib.Core.List.{List, [], _∷_, _++_, append-assoc, append-nil}
 use native.Mathlib.Omega.{arith}
 use native.Mathlib.Numerals.{add-one}
 use native.Mathlib.Nat.{add-zero}
 use lib.Ieee.{Float}
-use lib.ListN.{length, getD, set, take, drop, length-append, length-map}
-use lib.Seq.{length-take-le, take-all, take-suc, drop-append-add, take-at, drop-at, drop-drop, sets-eq}
+use lib.ListN.{length, getD, set, take, drop, length-append}
+use lib.Seq.{length-take-le, drop-append-add, take-at, drop-at, drop-drop, sets-eq}
 use Rattle.model.specs.declared.Pose.{Pose}
 use Rattle.model.specs.declared.Matrix4.{Matrix4}
+use Rattle.model.specs.declared.FrameKind.{FrameKind}
 use Rattle.model.specs.Rotations.{identityMatrix, product, floats}
 use Rattle.model.specs.Pose.{toMatrix}
 use Rattle.model.specs.Plan.{jointCount, parent, isRoot, outputAt}
 use Rattle.model.specs.Table.{tableTo}
-use Rattle.model.specs.Skeleton.{parentMatrix, jointMatrix, jointMatrices, pageMatrix, flat}
+use Rattle.model.specs.Skeleton.{ownMatrix, parentMatrix, jointMatrix, jointMatrices, flat}
 use Rattle.model.specs.Laws.Table.{table-length}
 use Rattle.model.specs.Laws.Passed.{parent-earlier}
 use Rattle.layout.specs.Layout.{Passes}
 use Rattle.lanes.specs.Lanes.{laneAt}
-use Rattle.skeleton.specs.Buffer.{rowFrom, matrixFrom, rowFloats, stored, parentIn, jointsWritten, GlobalPoses, Paged}
+use Rattle.skeleton.specs.Buffer.{rowFrom, matrixFrom, rowFloats, stored, parentIn, jointsWritten, ownMatrices, ownBehind, OwnMatrices, Multiplied, GlobalPoses}
 
 -- ---- stores
 
@@ -103,75 +104,125 @@ unfolding parentIn parentMatrix
 parent-back plan j ms rest e earlier =
     cond-else (isRoot plan j) identityMatrix _ _ (λ t. read-back ms (parent plan j) rest (rw e (earlier t)))
 
--- the buffer after joint j's turn
-joint-more : (plan : List ℕ) (poseOf : ℕ → Pose) (j : ℕ) (old : List Float) → (isRoot plan j ≡ false → parent plan j < j)
-    → stored (jointsWritten plan poseOf j old) (outputAt j) (floats (product (parentIn plan (jointsWritten plan poseOf j old) j) (toMatrix (poseOf j)))) ≡ jointsWritten plan poseOf (j + 1) old
-unfolding jointsWritten jointMatrices jointMatrix tableTo
-joint-more plan poseOf j old earlier =
-    let ms = tableTo (jointMatrix plan poseOf) j in
-    let back = drop (outputAt j) old in
-    let n : length ms ≡ j = table-length (jointMatrix plan poseOf) j in
-    let s : 16 * suc j ≡ 16 * j + 16 = omega arith in
-    rw (parent-back plan j ms back n earlier, stored-next ms (jointMatrix plan poseOf ms j) back j n, drop-drop 16 (outputAt j) old, add-one j, s)
+-- the buffer after the product of joint j, whose own matrix stands behind the others
+joint-more : (kind : FrameKind) (plan : List ℕ) (poseOf : ℕ → Pose) (j n : ℕ) (old : List Float) → (isRoot plan j ≡ false → parent plan j < j)
+    → let buffer = ownBehind kind poseOf (jointMatrices kind plan poseOf j) j (suc n) old in
+    stored buffer (outputAt j) (floats (product (parentIn plan buffer j) (matrixFrom (drop (outputAt j) buffer))))
+    ≡ ownBehind kind poseOf (jointMatrices kind plan poseOf (j + 1)) (j + 1) n old
+unfolding ownBehind ownMatrices jointMatrices jointMatrix tableTo flat floats
+joint-more kind plan poseOf j n old earlier =
+    let ms = tableTo (jointMatrix kind plan poseOf) j in
+    let own = ownMatrix kind (toMatrix (poseOf j)) in
+    let rest = flat (ownMatrices kind poseOf (suc j) n) ++ drop (outputAt (j + suc n)) old in
+    let len : length ms ≡ j = table-length (jointMatrix kind plan poseOf) j in
+    let s : 16 * (suc j + n) ≡ 16 * (j + suc n) = omega arith in
+    rw (
+      append-assoc (floats own) (flat (ownMatrices kind poseOf (suc j) n)) (drop (outputAt (j + suc n)) old),
+      parent-back plan j ms (floats own ++ rest) len earlier,
+      read-next ms own rest j len,
+      stored-next ms (jointMatrix kind plan poseOf ms j) (floats own ++ rest) j len,
+      add-one j,
+      s,
+    )
 
 cond-same : {A : Type 0} (b : Bool) (x : A) → cond b x x ≡ x
 cond-same true x = refl
 cond-same false x = refl
 
 -- the buffer after the first joint: none is before it, so its parent's matrix is the identity whatever the plan says
-pub root-written : (plan : List ℕ) (poseOf : ℕ → Pose) (old : List Float) → stored old 0 (floats (product identityMatrix (toMatrix (poseOf 0)))) ≡ jointsWritten plan poseOf 1 old
+pub root-written : (kind : FrameKind) (plan : List ℕ) (poseOf : ℕ → Pose) (old : List Float) → stored old 0 (floats (product identityMatrix (ownMatrix kind (toMatrix (poseOf 0))))) ≡ jointsWritten kind plan poseOf 1 old
 unfolding jointsWritten jointMatrices jointMatrix parentMatrix tableTo flat
-root-written plan poseOf old =
-    rw (cond-same (isRoot plan 0) identityMatrix) (stored-next [] (product identityMatrix (toMatrix (poseOf 0))) old 0 refl)
+root-written kind plan poseOf old =
+    rw (cond-same (isRoot plan 0) identityMatrix) (stored-next [] (product identityMatrix (ownMatrix kind (toMatrix (poseOf 0)))) old 0 refl)
 
--- `GlobalPoses` of the first i lanes is the loop's invariant
-module _ (plan : List ℕ) (block : List Float) (first : ℕ) where
-  pub no-lanes : (before : List Float) → GlobalPoses plan block first 0 before before
-  no-lanes before = record { written = λ poseOf _ old e. rw (add-zero first) e }
+-- ---- own matrices. `OwnMatrices` of the first i lanes is the loop's invariant
 
-  pub one-lane-more : {i : ℕ} {before output after : List Float} {pose : Pose} {base : Matrix4} → Passes plan → first + i < jointCount plan
-      → GlobalPoses plan block first i before output
-      → base ≡ parentIn plan output (first + i) → pose ≡ laneAt block i → after ≡ stored output (outputAt (first + i)) (floats (product base (toMatrix pose)))
-      → GlobalPoses plan block first (i + 1) before after
-  one-lane-more {i} ok there done eb el ea = record {
-    written = λ poseOf lanes old e.
-        let o = done .written poseOf (λ k h. lanes k (omega arith)) old e in
-        let s : first + (i + 1) ≡ first + i + 1 = omega arith in
-        ea ∙ rw (eb, el, o, lanes i (omega arith), s) (joint-more plan poseOf (first + i) old (parent-earlier plan (ok .numbers) (ok .passed) (first + i) there));
+flat-append : (ms ns : List Matrix4) → flat (ms ++ ns) ≡ flat ms ++ flat ns
+unfolding flat
+flat-append [] ns = refl
+flat-append (m ∷ ms) ns = rw (flat-append ms ns, append-assoc (floats m) (flat ms) (flat ns))
+
+module _ (kind : FrameKind) (poseOf : ℕ → Pose) where
+  own-length : (j n : ℕ) → length (ownMatrices kind poseOf j n) ≡ n
+  unfolding ownMatrices
+  own-length j zero = refl
+  own-length j (suc n) = omega (arith, own-length (suc j) n)
+
+  own-last : (j n : ℕ) → ownMatrices kind poseOf j n ++ (ownMatrix kind (toMatrix (poseOf (j + n))) ∷ []) ≡ ownMatrices kind poseOf j (suc n)
+  unfolding ownMatrices
+  own-last j zero = rw (add-zero j)
+  own-last j (suc n) =
+      let s : j + suc n ≡ suc j + n = omega arith in
+      rw s (ap (λ (l : List Matrix4). ownMatrix kind (toMatrix (poseOf j)) ∷ l) (own-last (suc j) n))
+
+  -- the buffer after one store more
+  own-more : (ms : List Matrix4) (j n : ℕ) (old : List Float) → length ms ≡ j
+      → stored (ownBehind kind poseOf ms j n old) (outputAt (j + n)) (floats (ownMatrix kind (toMatrix (poseOf (j + n))))) ≡ ownBehind kind poseOf ms j (suc n) old
+  unfolding ownBehind
+  own-more ms j n old len =
+      let owns = ownMatrices kind poseOf j n in
+      let own = ownMatrix kind (toMatrix (poseOf (j + n))) in
+      let back = drop (outputAt (j + n)) old in
+      let k : length (ms ++ owns) ≡ j + n = length-append ms owns ∙ omega (arith, own-length j n) in
+      let s : 16 * (j + suc n) ≡ 16 * (j + n) + 16 = omega arith in
+      rw (
+        ← append-assoc (flat ms) (flat owns) back,
+        ← flat-append ms owns,
+        stored-next (ms ++ owns) own back (j + n) k,
+        append-assoc ms owns (own ∷ []),
+        flat-append ms (owns ++ (own ∷ [])),
+        own-last j n,
+        append-assoc (flat ms) (flat (ownMatrices kind poseOf j (suc n))) (drop 16 back),
+        drop-drop 16 (outputAt (j + n)) old,
+        s,
+      )
+
+module _ (kind : FrameKind) (block : List Float) (first : ℕ) where
+  pub no-own : (before : List Float) → OwnMatrices kind block first 0 before before
+  unfolding ownBehind ownMatrices flat
+  no-own before = record { own = λ poseOf _ ms len old e. rw (add-zero first) e }
+
+  pub one-own-more : {i : ℕ} {before output after : List Float} {own : Matrix4} → OwnMatrices kind block first i before output
+      → own ≡ ownMatrix kind (toMatrix (laneAt block i)) → after ≡ stored output (outputAt (first + i)) (floats own)
+      → OwnMatrices kind block first (i + 1) before after
+  one-own-more {i} done eo ea = record {
+    own = λ poseOf lanes ms len old e.
+        let o = done .own poseOf (λ k h. lanes k (omega arith)) ms len old e in
+        ea ∙ rw (eo, o, lanes i (omega arith), add-one i) (own-more kind poseOf ms first i old len);
   }
 
--- ---- page matrices. `Paged` of the first j is the loop's invariant: for these, what follows is the rest
+-- ---- products. Invariant: those of the first i are done, and the own matrices of the k others stand behind them
 
-pub none-paged : (before : List Float) → Paged 0 before before
-unfolding flat
-none-paged before = record { turned = paged-none }
-  where
-    paged-none : (ms : List Matrix4) (rest : List Float) → length ms ≡ 0 → before ≡ flat ms ++ rest → before ≡ flat (map pageMatrix ms) ++ rest
-    paged-none [] rest n e = e
-    paged-none (m ∷ ms) rest n e = absurd (omega arith)
+pub record Through (plan : List ℕ) (first count : ℕ) (before after : List Float) (i : ℕ) : Type 0 where
+  pub done : (kind : FrameKind) (poseOf : ℕ → Pose) (old : List Float) → before ≡ ownBehind kind poseOf (jointMatrices kind plan poseOf first) first count old
+      → (k : ℕ) → i + k ≡ count → after ≡ ownBehind kind poseOf (jointMatrices kind plan poseOf (first + i)) (first + i) k old
 
--- n + 1 matrices are n and a last one
-with-last : (ms : List Matrix4) (n : ℕ) → length ms ≡ n + 1 → ms ≡ take n ms ++ (getD ms n identityMatrix ∷ [])
-with-last ms n e = sym (take-all (suc n) ms (omega arith)) ∙ take-suc ms n identityMatrix (omega arith)
+module _ (plan : List ℕ) (first count : ℕ) where
+  pub through-none : (before : List Float) → Through plan first count before before 0
+  through-none before = record {
+    done = λ kind poseOf old e k all.
+        let c : k ≡ count = omega (arith, all) in
+        rw (add-zero first, c) e;
+  }
 
--- the buffer after the turn of a matrix behind j others
-page-more : (front : List Matrix4) (last : Matrix4) (rest : List Float) (j : ℕ) (output : List Float) → length front ≡ j → output ≡ flat (map pageMatrix front) ++ (floats last ++ rest)
-    → stored output (outputAt j) (floats (pageMatrix (matrixFrom (drop (outputAt j) output)))) ≡ flat (map pageMatrix (front ++ (last ∷ []))) ++ rest
-unfolding floats
-page-more front last rest j output n e =
-    let turned = map pageMatrix front in
-    let k : length turned ≡ j = length-map front pageMatrix ∙ n in
-    rw (e, read-next turned last rest j k, map-append pageMatrix front (last ∷ [])) (stored-next turned (pageMatrix last) (floats last ++ rest) j k)
+  pub through-next : {i : ℕ} {before output after : List Float} {base own : Matrix4} → Passes plan → first + i < jointCount plan → Through plan first count before output i
+      → own ≡ matrixFrom (drop (outputAt (first + i)) output) → base ≡ parentIn plan output (first + i) → after ≡ stored output (outputAt (first + i)) (floats (product base own))
+      → Through plan first count before after (i + 1)
+  through-next {i} ok there t eo eb ea = record {
+    done = λ kind poseOf old e k all.
+        let o = t .done kind poseOf old e (suc k) (omega (arith, all)) in
+        let s : first + (i + 1) ≡ first + i + 1 = omega arith in
+        ea ∙ rw (eo, eb, o, s) (joint-more kind plan poseOf (first + i) k old (parent-earlier plan (ok .numbers) (ok .passed) (first + i) there));
+  }
 
-pub one-page-more : {j at : ℕ} {before output after : List Float} {m turned : Matrix4} → Paged j before output
-    → at ≡ outputAt j → m ≡ matrixFrom (drop at output) → turned ≡ pageMatrix m → after ≡ stored output at (floats turned)
-    → Paged (j + 1) before after
-one-page-more {j} {at} {before} {output} done ep em et ea = record {
-  turned = λ ms rest n e.
-      let front = take j ms in
-      let last = getD ms j identityMatrix in
-      let s = with-last ms j n in
-      let k : length front ≡ j = length-take-le j ms (omega arith) in
-      let o = done .turned front (floats last ++ rest) k (e ∙ ap (λ (l : List Matrix4). flat l ++ rest) s ∙ flat-more front last rest) in
-      ea ∙ rw (et, em, ep) (page-more front last rest j output k o ∙ ap (λ (l : List Matrix4). flat (map pageMatrix l) ++ rest) (sym s));
+  pub through-all : {before after : List Float} → Through plan first count before after count → Multiplied plan first count before after
+  unfolding jointsWritten ownBehind ownMatrices flat
+  through-all t = record { product = λ kind poseOf old e. rw (add-zero (first + count)) at (t .done kind poseOf old e 0 (add-zero count)) }
+
+-- both loops, one after the other
+pub own-then-product : {kind : FrameKind} {plan : List ℕ} {block : List Float} {first count : ℕ} {before middle after : List Float}
+    → OwnMatrices kind block first count before middle → Multiplied plan first count middle after → GlobalPoses kind plan block first count before after
+unfolding jointsWritten jointMatrices
+own-then-product {first = first} o m = record {
+  written = λ poseOf lanes old e. m .product _ poseOf old (o .own poseOf lanes _ (table-length _ first) old e);
 }

@@ -1,16 +1,18 @@
 -- Matrices inside the output buffer: how one is read back, how floats are stored, and what the joints done so far make of the buffer. Definitions only.
-use Prim.Native.Nat.{ℕ, _+_, _≤_, _<_}
+use Prim.Native.Nat.{ℕ, zero, suc, _+_, _≤_, _<_}
 use mathlib.Core.Path.{_≡_}
 use mathlib.Core.Bool.{cond}
-use mathlib.Core.List.{List, [], _∷_, _++_, map}
+use mathlib.Core.List.{List, [], _∷_, _++_}
 use lib.ListN.{length, getD, take, drop}
 use lib.Ieee.{Float, nan}
 use Rattle.model.specs.declared.Pose.{Pose}
 use Rattle.model.specs.declared.Row.{Row}
 use Rattle.model.specs.declared.Matrix4.{Matrix4}
+use Rattle.model.specs.declared.FrameKind.{FrameKind}
 use Rattle.model.specs.Rotations.{row, identityMatrix}
+use Rattle.model.specs.Pose.{toMatrix}
 use Rattle.model.specs.Plan.{jointCount, parent, isRoot, outputAt}
-use Rattle.model.specs.Skeleton.{jointMatrices, pageMatrix, flat}
+use Rattle.model.specs.Skeleton.{ownMatrix, jointMatrices, flat}
 use Rattle.lanes.specs.Lanes.{laneAt}
 
 -- there is room for the matrices of all joints
@@ -37,14 +39,29 @@ unfoldable pub parentIn : List ℕ → List Float → ℕ → Matrix4
 parentIn plan buffer j = cond (isRoot plan j) identityMatrix (matrixFrom (drop (outputAt (parent plan j)) buffer))
 
 -- the buffer that held `old` once the first n joints are written
-unfoldable pub jointsWritten : List ℕ → (ℕ → Pose) → ℕ → List Float → List Float
-jointsWritten plan poseOf n old = flat (jointMatrices plan poseOf n) ++ drop (outputAt n) old
+unfoldable pub jointsWritten : FrameKind → List ℕ → (ℕ → Pose) → ℕ → List Float → List Float
+jointsWritten kind plan poseOf n old = flat (jointMatrices kind plan poseOf n) ++ drop (outputAt n) old
+
+-- the own matrices of n joints from joint j on
+unfoldable pub ownMatrices : FrameKind → (ℕ → Pose) → ℕ → ℕ → List Matrix4
+ownMatrices kind poseOf j zero = []
+ownMatrices kind poseOf j (suc n) = ownMatrix kind (toMatrix (poseOf j)) ∷ ownMatrices kind poseOf (suc j) n
+
+-- matrices `ms`, and behind them the own ones of n joints, in a buffer that held `old`
+unfoldable pub ownBehind : FrameKind → (ℕ → Pose) → List Matrix4 → ℕ → ℕ → List Float → List Float
+ownBehind kind poseOf ms j n old = flat ms ++ (flat (ownMatrices kind poseOf j n) ++ drop (outputAt (j + n)) old)
+
+-- those of `count` lanes are stored behind the first `first` matrices, whatever these are and the buffer held
+pub record OwnMatrices (kind : FrameKind) (block : List Float) (first count : ℕ) (before after : List Float) : Type 0 where
+  pub own : (poseOf : ℕ → Pose) → ((i : ℕ) → i < count → laneAt block i ≡ poseOf (first + i)) → (ms : List Matrix4) → length ms ≡ first → (old : List Float)
+      → before ≡ flat ms ++ drop (outputAt first) old → after ≡ ownBehind kind poseOf ms first count old
+
+-- of `count` own matrices behind the first `first` joints', each is multiplied by its parent's
+pub record Multiplied (plan : List ℕ) (first count : ℕ) (before after : List Float) : Type 0 where
+  pub product : (kind : FrameKind) (poseOf : ℕ → Pose) (old : List Float)
+      → before ≡ ownBehind kind poseOf (jointMatrices kind plan poseOf first) first count old → after ≡ jointsWritten kind plan poseOf (first + count) old
 
 -- a block of `count` lanes is written behind the first `first` joints, whatever poses the joints have and the buffer held
-pub record GlobalPoses (plan : List ℕ) (block : List Float) (first count : ℕ) (before after : List Float) : Type 0 where
+pub record GlobalPoses (kind : FrameKind) (plan : List ℕ) (block : List Float) (first count : ℕ) (before after : List Float) : Type 0 where
   pub written : (poseOf : ℕ → Pose) → ((i : ℕ) → i < count → laneAt block i ≡ poseOf (first + i)) → (old : List Float)
-      → before ≡ jointsWritten plan poseOf first old → after ≡ jointsWritten plan poseOf (first + count) old
-
--- each of n matrices is made a page matrix
-pub record Paged (n : ℕ) (before after : List Float) : Type 0 where
-  pub turned : (ms : List Matrix4) (rest : List Float) → length ms ≡ n → before ≡ flat ms ++ rest → after ≡ flat (map pageMatrix ms) ++ rest
+      → before ≡ jointsWritten kind plan poseOf first old → after ≡ jointsWritten kind plan poseOf (first + count) old

@@ -1,8 +1,9 @@
-// Ports skeleton.rs: the joints' global matrices, written into the caller's buffer; and page matrices.
+// Ports skeleton.rs: the joints' global matrices, written into the caller's buffer, for both kinds of frame.
 use lanes::BLOCK_FLOATS;
 use lanes::lane;
 use layout::parent;
 use math::product_row;
+use model::FrameKind;
 use model::Matrix4;
 use model::Pose;
 use model::Row;
@@ -16,10 +17,10 @@ ghost use Rattle.model.specs.Rotations.{identityMatrix, floats, product};
 ghost use Rattle.model.specs.Pose.{toMatrix};
 ghost use Rattle.model.specs.Text.{maxWord};
 ghost use Rattle.model.specs.Plan.{maxJoints, jointCount, parentAt, parent, isRoot, outputAt};
-ghost use Rattle.model.specs.Skeleton.{pageMatrix};
+ghost use Rattle.model.specs.Skeleton.{upperTransposed, ownMatrix};
 ghost use Rattle.layout.specs.Layout.{Passes};
 ghost use Rattle.lanes.specs.Lanes.{blockSize};
-ghost use Rattle.skeleton.specs.Buffer.{rowFrom, matrixFrom, rowFloats, stored, parentIn, GlobalPoses, Paged};
+ghost use Rattle.skeleton.specs.Buffer.{rowFrom, matrixFrom, rowFloats, stored, parentIn, OwnMatrices, Multiplied, GlobalPoses};
 
 // Where joint j's matrix begins in the output.
 pub fn output_at(j: usize) -> usize
@@ -125,64 +126,9 @@ fn parent_matrix(plan: &[u16], buffer: &[f32], j: usize) -> Matrix4
     matrix_at(buffer, output_at(p))
 }
 
-// Joint j's matrix: its own, from its pose, times its parent's. Row by row: a product of whole matrices is not inlined
-// where it is called.
-fn set_joint(output: &mut [f32], j: usize, base: Matrix4, pose: Pose)
-    requires { ⌜ (j ≤ maxWord) × (outputAt (suc j) ≤ length (now output)) ⌝ }
-    ensures { λ _. ⌜
-        now (output .exit)
-        ≡ stored (now (output .entry)) (outputAt j) (floats (product base (toMatrix pose)))
-        ⌝ }
-{
-    let at = output_at(j);
-    let own = to_matrix(pose);
-    set_row(output, at, product_row(base.r0, own));
-    set_row(output, at + 4, product_row(base.r1, own));
-    set_row(output, at + 8, product_row(base.r2, own));
-    set_row(output, at + 12, product_row(base.r3, own));
-}
-
-// The matrix of the first joint, which is a root.
-pub fn calculate_root_pose(pose: Pose, output: &mut [f32])
-    requires { ⌜ outputAt 1 ≤ length (now output) ⌝ }
-    ensures { λ _. ⌜
-        now (output .exit)
-        ≡ stored (now (output .entry)) 0 (floats (product identityMatrix (toMatrix pose)))
-        ⌝ }
-{
-    set_joint(output, 0, identity_matrix(), pose);
-}
-
-// The matrices of the `count` joints from `first` on, whose poses are the block's lanes.
-pub fn calculate_global_poses(
-    plan: &[u16],
-    block: &[f32; BLOCK_FLOATS],
-    first: usize,
-    count: usize,
-    output: &mut [f32],
-)
-    requires { ⌜
-        Passes (now plan)
-        × (count ≤ blockSize)
-        × (first + count ≤ jointCount (now plan))
-        × (outputAt (first + count) ≤ length (now output))
-        ⌝ }
-    ensures { λ _. ⌜
-        GlobalPoses (now (plan .entry)) (now (block .entry)) first count (now (output .entry)) (now (output .exit))
-        ⌝ }
-{
-    let mut i = 0;
-    while i < count {
-        let j = first + i;
-        let base = parent_matrix(plan, output, j);
-        set_joint(output, j, base, lane(block, i));
-        i += 1;
-    }
-}
-
 // The upper 3×3 transposed.
-fn page_matrix(m: Matrix4) -> Matrix4
-    ensures { λ r. ⌜ r ≡ pageMatrix m ⌝ }
+fn upper_transposed(m: Matrix4) -> Matrix4
+    ensures { λ r. ⌜ r ≡ upperTransposed m ⌝ }
 {
     let r3 = m.r3;
     Matrix4 {
@@ -208,15 +154,112 @@ fn page_matrix(m: Matrix4) -> Matrix4
     }
 }
 
-// The first `joints` matrices of the output.
-pub fn make_page_matrices(joints: usize, output: &mut [f32])
-    requires { ⌜ (joints ≤ maxJoints) × (outputAt joints ≤ length (now output)) ⌝ }
-    ensures { λ _. ⌜ Paged joints (now (output .entry)) (now (output .exit)) ⌝ }
+// A joint's own matrix, from its pose's. The kind of frame makes no other difference.
+fn own_matrix(kind: FrameKind, m: Matrix4) -> Matrix4
+    ensures { λ r. ⌜ r ≡ ownMatrix kind m ⌝ }
 {
-    let mut j = 0;
-    while j < joints {
-        let at = output_at(j);
-        set_matrix(output, at, page_matrix(matrix_at(output, at)));
-        j += 1;
+    match kind {
+        FrameKind::Ordinary => m,
+        FrameKind::Page => upper_transposed(m),
     }
+}
+
+// Joint j's matrix: its parent's times its own. Row by row, and without a branch: the compiler inlines neither a product of
+// whole matrices nor a larger function with two ways.
+fn set_joint(output: &mut [f32], j: usize, base: Matrix4, own: Matrix4)
+    requires { ⌜ (j ≤ maxWord) × (outputAt (suc j) ≤ length (now output)) ⌝ }
+    ensures { λ _. ⌜
+        now (output .exit) ≡ stored (now (output .entry)) (outputAt j) (floats (product base own))
+        ⌝ }
+{
+    let at = output_at(j);
+    set_row(output, at, product_row(base.r0, own));
+    set_row(output, at + 4, product_row(base.r1, own));
+    set_row(output, at + 8, product_row(base.r2, own));
+    set_row(output, at + 12, product_row(base.r3, own));
+}
+
+// The matrix of the first joint, which is a root.
+pub fn calculate_root_pose(kind: FrameKind, pose: Pose, output: &mut [f32])
+    requires { ⌜ outputAt 1 ≤ length (now output) ⌝ }
+    ensures { λ _. ⌜
+        now (output .exit)
+        ≡ stored (now (output .entry)) 0 (floats (product identityMatrix (ownMatrix kind (toMatrix pose))))
+        ⌝ }
+{
+    let base = identity_matrix();
+    let m = to_matrix(pose);
+    let own = own_matrix(kind, m);
+    set_joint(output, 0, base, own);
+}
+
+// The own matrices of the block's lanes, each where its joint's matrix will stand.
+fn set_own_matrices(
+    kind: FrameKind,
+    block: &[f32; BLOCK_FLOATS],
+    first: usize,
+    count: usize,
+    output: &mut [f32],
+)
+    requires { ⌜
+        (count ≤ blockSize)
+        × (first + count ≤ maxJoints)
+        × (outputAt (first + count) ≤ length (now output))
+        ⌝ }
+    ensures { λ _. ⌜
+        OwnMatrices kind (now (block .entry)) first count (now (output .entry)) (now (output .exit))
+        ⌝ }
+{
+    let mut i = 0;
+    while i < count {
+        let m = to_matrix(lane(block, i));
+        let own = own_matrix(kind, m);
+        set_matrix(output, output_at(first + i), own);
+        i += 1;
+    }
+}
+
+// The own matrices of the `count` joints from `first` on become their global ones, parents first.
+fn multiply_by_parents(plan: &[u16], first: usize, count: usize, output: &mut [f32])
+    requires { ⌜
+        Passes (now plan)
+        × (first + count ≤ jointCount (now plan))
+        × (outputAt (first + count) ≤ length (now output))
+        ⌝ }
+    ensures { λ _. ⌜
+        Multiplied (now (plan .entry)) first count (now (output .entry)) (now (output .exit))
+        ⌝ }
+{
+    let mut i = 0;
+    while i < count {
+        let j = first + i;
+        let own = matrix_at(output, output_at(j));
+        let base = parent_matrix(plan, output, j);
+        set_joint(output, j, base, own);
+        i += 1;
+    }
+}
+
+// The matrices of the `count` joints from `first` on, whose poses are the block's lanes. In two loops, since the products
+// are faster where own matrices are read as rows.
+pub fn calculate_global_poses(
+    kind: FrameKind,
+    plan: &[u16],
+    block: &[f32; BLOCK_FLOATS],
+    first: usize,
+    count: usize,
+    output: &mut [f32],
+)
+    requires { ⌜
+        Passes (now plan)
+        × (count ≤ blockSize)
+        × (first + count ≤ jointCount (now plan))
+        × (outputAt (first + count) ≤ length (now output))
+        ⌝ }
+    ensures { λ _. ⌜
+        GlobalPoses kind (now (plan .entry)) (now (block .entry)) first count (now (output .entry)) (now (output .exit))
+        ⌝ }
+{
+    set_own_matrices(kind, block, first, count, output);
+    multiply_by_parents(plan, first, count, output);
 }

@@ -10,8 +10,8 @@ use Rattle.model.specs.Table.{tableTo}
 use Rattle.model.specs.Clips.{firstIndex, secondIndex, factor, sampledPosition, blankInstances, duration, poseAt, clipPose}
 use Rattle.model.specs.Tree.{additive, targetLength, synchronizedRate, playsSamples, isTouched, nodeLength, nodeTarget, inputSynchronized, synchronizeNode, synchronizeNodes, synchronize, nodePose, nodePoses, statePose}
 use Rattle.model.specs.Controller.{blank, synchronizeStates, fresh, isTargetBelow, frameVerdict, nowAt, isEnded, holds, firstPassing, winner, startedBy, stepFrom, elapsed, transitionFactor, currentInstances, targetInstances, instancesIn, currentPose, targetPose, poseIn}
-use Rattle.model.specs.Skeleton.{parentMatrix, jointMatrix, jointMatrices, pageMatrix, flat, written}
-use Rattle.model.specs.Run.{startVerdict, startPlayer, shown, framePlayer, frameMatrices, callVerdict, changed, after, chosenFloats, observation, runFrom, run}
+use Rattle.model.specs.Skeleton.{upperTransposed, ownMatrix, parentMatrix, jointMatrix, jointMatrices, flat, written}
+use Rattle.model.specs.Run.{startVerdict, startPlayer, framePlayer, frameMatrices, callVerdict, changed, after, chosenFloats, observation, runFrom, run}
 
 -- the check of a plan
 unfoldable pub check-opened : Unit {0}
@@ -24,5 +24,5 @@ unfolding add sub mul div lt le eq ne neg odd size round ofInt toUnsigned toBits
 floats-opened = tt
 
 unfoldable pub all-opened : Unit {0}
-unfolding check-opened floats-opened values unlessRefused number samplePose tableTo blankInstances duration poseAt clipPose additive playsSamples isTouched nodeLength nodeTarget inputSynchronized synchronizeNode synchronizeNodes synchronize nodePose nodePoses statePose blank synchronizeStates fresh isTargetBelow frameVerdict isEnded holds firstPassing winner startedBy stepFrom currentInstances targetInstances instancesIn currentPose targetPose poseIn parentMatrix jointMatrix jointMatrices pageMatrix flat written startVerdict startPlayer shown framePlayer frameMatrices callVerdict changed after chosenFloats observation runFrom run
+unfolding check-opened floats-opened values unlessRefused number samplePose tableTo blankInstances duration poseAt clipPose additive playsSamples isTouched nodeLength nodeTarget inputSynchronized synchronizeNode synchronizeNodes synchronize nodePose nodePoses statePose blank synchronizeStates fresh isTargetBelow frameVerdict isEnded holds firstPassing winner startedBy stepFrom currentInstances targetInstances instancesIn currentPose targetPose poseIn upperTransposed ownMatrix parentMatrix jointMatrix jointMatrices flat written startVerdict startPlayer framePlayer frameMatrices callVerdict changed after chosenFloats observation runFrom run
 all-opened = tt

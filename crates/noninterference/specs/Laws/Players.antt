@@ -3,7 +3,7 @@ use Prim.Native.Nat.{ℕ, zero, suc, _+_, _≤_, _<_}
 use native.Mathlib.Omega.{arith}
 use mathlib.Core.Path.{_≡_, refl, sym, ap, _∙_, subst}
 use mathlib.Core.List.{List, List·Memᴰ}
-use lib.ListN.{length, getD, replicate, List·getD-map}
+use lib.ListN.{length, getD, replicate}
 use lib.Ieee.{Float, nan}
 use Rattle.model.specs.declared.Pose.{Pose}
 use Rattle.model.specs.declared.Matrix4.{Matrix4}
@@ -13,7 +13,6 @@ use Rattle.model.specs.declared.Transition.the-variants.{Idle, Running}
 use Rattle.model.specs.declared.Winner.{Winner}
 use Rattle.model.specs.declared.Winner.the-variants.{At, Nothing}
 use Rattle.model.specs.declared.FrameKind.{FrameKind}
-use Rattle.model.specs.declared.FrameKind.the-variants.{Ordinary, Page}
 use Rattle.model.specs.Numbers.{0f}
 use Rattle.model.specs.Rotations.{identityMatrix, product, floats}
 use Rattle.model.specs.Pose.{toMatrix}
@@ -22,8 +21,8 @@ use Rattle.model.specs.Plan.{maxParameters, jointCount, stateCount, parent, isR
 use Rattle.model.specs.Check.{check}
 use Rattle.model.specs.Controller.{blank, synchronizeStates, fresh, frameVerdict, nowAt, isEnded, conditionHolds, firstPassing, winner, startedBy, stepFrom, stepped, elapsed, currentInstances, targetInstances, instancesIn, synchronized, currentPose, targetPose, poseIn, jointPose}
 use Rattle.model.specs.Tree.{statePose}
-use Rattle.model.specs.Skeleton.{parentMatrix, jointMatrix, jointMatrices, pageMatrix}
-use Rattle.model.specs.Run.{shown, framePlayer, frameMatrices, Call, callVerdict, changed, after, chosenFloats, observation, runFrom}
+use Rattle.model.specs.Skeleton.{ownMatrix, parentMatrix, jointMatrix, jointMatrices}
+use Rattle.model.specs.Run.{framePlayer, frameMatrices, Call, callVerdict, changed, after, chosenFloats, observation, runFrom}
 use Rattle.model.specs.Unseen.{Reachable, initial, target, Read, byCondition}
 use Rattle.model.specs.Laws.Passed.{parent-earlier, reachable-below}
 use Rattle.model.specs.Laws.Table.{table-at}
@@ -48,33 +47,24 @@ pub record LowEquivalent (plan : List ℕ) (p q : Player) : Type 0 where
   pub parameters : SameAt nan (Read plan) (p .parameters) (q .parameters)
   pub instances : SameInstances plan (p .instances) (q .instances)
 
--- ---- skeleton: a closed set's matrices depend on its own poses only
+-- ---- skeleton: a closed set's matrices depend on its own poses only, in either kind of frame
 
-module _ (plan chosen : List ℕ) (k : ℕ) (ok : check plan k ≡ accepted) (closed : Closed plan chosen) (f g : ℕ → Pose) (same : (j : ℕ) → List·Memᴰ j chosen → f j ≡ g j) where
-  matrix-same : (n j : ℕ) → j < n → List·Memᴰ j chosen → jointMatrix plan f (tableTo (jointMatrix plan f) j) j ≡ jointMatrix plan g (tableTo (jointMatrix plan g) j) j
+module _ (kind : FrameKind) (plan chosen : List ℕ) (k : ℕ) (ok : check plan k ≡ accepted) (closed : Closed plan chosen) (f g : ℕ → Pose) (same : (j : ℕ) → List·Memᴰ j chosen → f j ≡ g j) where
+  matrix-same : (n j : ℕ) → j < n → List·Memᴰ j chosen → jointMatrix kind plan f (tableTo (jointMatrix kind plan f) j) j ≡ jointMatrix kind plan g (tableTo (jointMatrix kind plan g) j) j
   unfolding jointMatrix parentMatrix
   matrix-same zero j h m = absurd (omega arith)
   matrix-same (suc n) j h m =
       rw (same j m)
-      (ap (λ (x : Matrix4). product x (toMatrix (g j)))
+      (ap (λ (x : Matrix4). product x (ownMatrix kind (toMatrix (g j))))
       (cond-same (isRoot plan j) (λ e. refl)
       (λ e. let earlier : parent plan j < j = parent-earlier plan k ok j (closed .are-joints j m) e in
-      table-at (jointMatrix plan f) j identityMatrix (parent plan j) earlier
+      table-at (jointMatrix kind plan f) j identityMatrix (parent plan j) earlier
       ∙ matrix-same n (parent plan j) (omega arith) (closed .parents j m e)
-      ∙ sym (table-at (jointMatrix plan g) j identityMatrix (parent plan j) earlier))))
+      ∙ sym (table-at (jointMatrix kind plan g) j identityMatrix (parent plan j) earlier))))
 
-  pub matrices-same : (n : ℕ) (d : Matrix4) (j : ℕ) → j < n → List·Memᴰ j chosen → getD (jointMatrices plan f n) j d ≡ getD (jointMatrices plan g n) j d
+  pub matrices-same : (n : ℕ) (d : Matrix4) (j : ℕ) → j < n → List·Memᴰ j chosen → getD (jointMatrices kind plan f n) j d ≡ getD (jointMatrices kind plan g n) j d
   unfolding jointMatrices
-  matrices-same n d j h m = table-at (jointMatrix plan f) n d j h ∙ matrix-same n j h m ∙ sym (table-at (jointMatrix plan g) n d j h)
-
--- what a kind of frame shows of equal matrices is equal
-shown-same : (kind : FrameKind) (ms ns : List Matrix4) (j : ℕ) → getD ms j identityMatrix ≡ getD ns j identityMatrix → getD (shown kind ms) j identityMatrix ≡ getD (shown kind ns) j identityMatrix
-unfolding shown pageMatrix identityMatrix
-shown-same Ordinary ms ns j e = e
-shown-same Page ms ns j e = paged ms ∙ ap pageMatrix e ∙ sym (paged ns)
-  where
-    paged : (l : List Matrix4) → getD (shown Page l) j identityMatrix ≡ pageMatrix (getD l j identityMatrix)
-    paged l = List·getD-map pageMatrix l j identityMatrix
+  matrices-same n d j h m = table-at (jointMatrix kind plan f) n d j h ∙ matrix-same n j h m ∙ sym (table-at (jointMatrix kind plan g) n d j h)
 
 -- ---- controller
 
@@ -253,9 +243,8 @@ module _ (plan chosen : List ℕ) (a b : List Float) (ok : check plan (length a)
     frame-matrix : (kind : FrameKind) (ext : Float) (j : ℕ) → List·Memᴰ j chosen → getD (frameMatrices plan a p ext kind) j identityMatrix ≡ getD (frameMatrices plan b q ext kind) j identityMatrix
     unfolding frameMatrices
     frame-matrix kind ext j m =
-        shown-same kind _ _ j
-        (rw (now-same ext, elapsed-same ext)
-        (matrices-same plan chosen (length a) ok closed _ _ (joint-same (elapsed q ext) _ _ (stepped-equivalent p q h (nowAt q ext)) (nowAt q ext)) (jointCount plan) identityMatrix j (closed .are-joints j m) m))
+        rw (now-same ext, elapsed-same ext)
+        (matrices-same kind plan chosen (length a) ok closed _ _ (joint-same (elapsed q ext) _ _ (stepped-equivalent p q h (nowAt q ext)) (nowAt q ext)) (jointCount plan) identityMatrix j (closed .are-joints j m) m)
 
     floats-same : {c d : Call} → AlikeCall plan c d → chosenFloats plan a chosen p c ≡ chosenFloats plan b chosen q d
     unfolding chosenFloats

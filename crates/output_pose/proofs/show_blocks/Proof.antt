@@ -10,11 +10,11 @@ use Rattle.output_pose.proofs.show_blocks.Statement.{statement}
 use Rattle.output_pose.proofs.show_blocks.Tie as tie
 
 abbrev Inv-loop : tie.InvT-loop
-Inv-loop plan numbers state blend parameters slots there-slots current instances output₀ total block₀ first₀ output block first =
-    Through plan (state .layout) (λ j. shownPose plan numbers parameters current instances j state blend) output₀ output first
+Inv-loop kind plan numbers state blend parameters slots there-slots current instances output₀ total block₀ first₀ output block first =
+    Through kind plan (state .layout) (λ j. shownPose plan numbers parameters current instances j state blend) output₀ output first
 
 abbrev μ-loop : tie.MeasureT-loop
-μ-loop plan numbers state blend parameters slots there-slots current instances output₀ total block₀ first₀ output block first = state .layout .joints - first
+μ-loop kind plan numbers state blend parameters slots there-slots current instances output₀ total block₀ first₀ output block first = state .layout .joints - first
 
 add-first : tie.Need-add-first Inv-loop μ-loop
 add-first c =

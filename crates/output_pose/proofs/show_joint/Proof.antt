@@ -76,7 +76,7 @@ returns : tie.Need-returns
 returns c =
     let d = c .before .before in
     let j = d .before .before in
-    joint-shown _ _ _ _ _ _ _ _ (one-joint (j .before .before .before .before .before)) (shown j) (d .calculate-root-pose .ensures)
+    joint-shown _ _ _ _ _ _ _ _ _ (one-joint (j .before .before .before .before .before)) (shown j) (d .calculate-root-pose .ensures)
 
 pub show-joint-spec : {M : Type 1} → statement M
 show-joint-spec =
