@@ -198,7 +198,8 @@ pub fn frame(
         (now (instances .entry)) (now (instances .exit)) (now (output .entry)) (now (output .exit)) r
         ⌝ }
 {
-    let checked = check(plan, numbers.len());
+    // Lent anew, so that its pointer and length are loaded one by one: a load of both would wait for a C host's two stores.
+    let checked = check(&*plan, numbers.len());
     let Checked::Passed(layout) = checked else {
         return kept(answer_of(checked), parts);
     };

@@ -26,5 +26,6 @@ pub mod Wrap
 pub mod Stopping
 pub mod Pauses
 pub mod Joints
+pub mod Pages
 pub mod ExactlyOne
 pub mod Unused

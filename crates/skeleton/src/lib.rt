@@ -212,8 +212,7 @@ fn set_own_matrices(
 {
     let mut i = 0;
     while i < count {
-        let m = to_matrix(lane(block, i));
-        let own = own_matrix(kind, m);
+        let own = own_matrix(kind, to_matrix(lane(block, i)));
         set_matrix(output, output_at(first + i), own);
         i += 1;
     }

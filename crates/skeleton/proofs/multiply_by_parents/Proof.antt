@@ -39,9 +39,12 @@ parent-matrix-requires c κs =
     let t = c .before .before .before .before in
     let s = t .before .before .before .before in
     let ok = s .pre .0 .passed in
-    let j = s .args .first + t .before .loop .i in
-    (omega (arith, t .loop-test .taken, s .pre .1, few-joints _ _ ok), parent-there _ _ ok j (omega (arith, t .loop-test .taken, s .pre .1)), root-by-parent _ _ ok j (omega (arith, t .loop-test .taken, s .pre .1)),
-    omega (arith, t .loop-test .taken, t .before .loop .inv .1, s .pre .2))
+    let j = s .args .first + t .before .loop .i in (
+      omega (arith, t .loop-test .taken, s .pre .1, few-joints _ _ ok),
+      parent-there _ _ ok j (omega (arith, t .loop-test .taken, s .pre .1)),
+      root-by-parent _ _ ok j (omega (arith, t .loop-test .taken, s .pre .1)),
+      omega (arith, t .loop-test .taken, t .before .loop .inv .1, s .pre .2),
+    )
 
 set-joint-requires : tie.Need-set-joint-requires Inv-loop μ-loop
 set-joint-requires c κs =
@@ -65,9 +68,11 @@ loop-again c =
     let m = p .before .before in
     let t = m .before .before .before in
     let l = t .before .loop in
-    let s = t .before .before .before .before in
-    (omega (arith, t .loop-test .taken), w .set-joint .kept .0 ∙ l .inv .1,
-    through-next _ _ _ (s .pre .0) (omega (arith, t .loop-test .taken, s .pre .1)) (l .inv .2) (m .matrix-at .ensures ∙ rw (m .before .output-at .ensures)) (p .parent-matrix .ensures) (w .set-joint .ensures))
+    let s = t .before .before .before .before in (
+      omega (arith, t .loop-test .taken),
+      w .set-joint .kept .0 ∙ l .inv .1,
+      through-next _ _ _ (s .pre .0) (omega (arith, t .loop-test .taken, s .pre .1)) (l .inv .2) (m .matrix-at .ensures ∙ rw (m .before .output-at .ensures)) (p .parent-matrix .ensures) (w .set-joint .ensures),
+    )
 
 returns : tie.Need-returns Inv-loop μ-loop
 returns c =

@@ -1,0 +1,125 @@
+-- Document 02, Card 5: the matrices of a page frame, under turned parents and at roots. Theorems over the definitions.
+use Prim.Native.Nat.{ℕ, zero, suc, _<_}
+use native.Mathlib.Omega.{arith}
+use mathlib.Core.Path.{_≡_, refl, ap, sym, _∙_}
+use mathlib.Core.Bool.{true, false}
+use mathlib.Core.List.{List, [], _∷_}
+use lib.ListN.{length, getD}
+use lib.Ieee.{Float, nan, inf, neg, binary32, toBits, ofBits}
+use Rattle.model.specs.declared.Pose.{Pose}
+use Rattle.model.specs.declared.Matrix4.{Matrix4}
+use Rattle.model.specs.declared.Player.{Player}
+use Rattle.model.specs.declared.FrameKind.{FrameKind}
+use Rattle.model.specs.declared.FrameKind.the-variants.{Ordinary, Page}
+use Rattle.model.specs.Numbers.{0f, 1f, half}
+use Rattle.model.specs.Rotations.{quaternion, row, identityMatrix, product}
+use Rattle.model.specs.Pose.{vector, toMatrix}
+use Rattle.model.specs.Answers.{accepted}
+use Rattle.model.specs.Plan.{root, jointCount, parent, isRoot}
+use Rattle.model.specs.Check.{check}
+use Rattle.model.specs.Controller.{nowAt, elapsed, jointPose}
+use Rattle.model.specs.Skeleton.{upperTransposed, ownMatrix, parentMatrix, jointMatrix, jointMatrices}
+use Rattle.model.specs.Run.{frameStepped, frameMatrices}
+use Rattle.model.specs.Bench.{withParents}
+use Rattle.model.specs.Laws.Opened.{all-opened}
+use Rattle.model.specs.Laws.Table.{table-at}
+use Rattle.model.specs.Laws.Passed.{parent-earlier}
+
+-- ---- a frame of either kind, as it is finished
+
+module _ (plan : List ℕ) (numbers : List Float) (p : Player) (ext : Float) (kind : FrameKind) where
+  abbrev poseShown : ℕ → Pose
+  poseShown j = jointPose plan numbers (elapsed p ext) (frameStepped plan numbers p ext) (nowAt p ext) j
+
+  abbrev matrixShown : ℕ → Matrix4
+  matrixShown j = getD (frameMatrices plan numbers p ext kind) j identityMatrix
+
+  entry-of : (j : ℕ) → j < jointCount plan → matrixShown j ≡ product (parentMatrix plan (jointMatrices kind plan poseShown j) j) (ownMatrix kind (toMatrix (poseShown j)))
+  unfolding frameMatrices jointMatrices jointMatrix
+  entry-of j h = table-at (jointMatrix kind plan poseShown) (jointCount plan) identityMatrix j h
+
+  -- a root's own matrix is multiplied too
+  pub root-shown : (j : ℕ) → j < jointCount plan → isRoot plan j ≡ true → matrixShown j ≡ product identityMatrix (ownMatrix kind (toMatrix (poseShown j)))
+  unfolding parentMatrix
+  root-shown j h e = rw e at (entry-of j h)
+
+  -- 'transposes each local 3×3 first and multiplies then': by the parent's matrix as this very frame shows it
+  pub child-shown : check plan (length numbers) ≡ accepted → (j : ℕ) → j < jointCount plan → isRoot plan j ≡ false
+      → matrixShown j ≡ product (matrixShown (parent plan j)) (ownMatrix kind (toMatrix (poseShown j)))
+  unfolding parentMatrix frameMatrices jointMatrices
+  child-shown ok j h e =
+      let table = jointMatrix kind plan poseShown in
+      let earlier : parent plan j < j = parent-earlier plan (length numbers) ok j h e in
+      let same : getD (jointMatrices kind plan poseShown j) (parent plan j) identityMatrix ≡ matrixShown (parent plan j) =
+      table-at table j identityMatrix (parent plan j) earlier ∙ sym (table-at table (jointCount plan) identityMatrix (parent plan j) (omega arith)) in
+      rw (e, same) at (entry-of j h)
+
+-- 'ordinary frames stay the Rust's'
+pub ordinary-stays : (plan : List ℕ) (poseOf : ℕ → Pose) (earlier : List Matrix4) (j : ℕ) → jointMatrix Ordinary plan poseOf earlier j ≡ product (parentMatrix plan earlier j) (toMatrix (poseOf j))
+unfolding jointMatrix ownMatrix
+ordinary-stays plan poseOf earlier j = refl
+
+-- ---- a hand on a turned arm. Each turns by a third, about axes of their own, so nothing is rounded
+
+abbrev arm : Pose
+arm = record { translation = vector half 0f 0f; scale = 1f; rotation = quaternion half half half half }
+
+abbrev hand : Pose
+hand = record { translation = vector 0f half 0f; scale = 1f; rotation = quaternion half (neg half) half half }
+
+abbrev armAndHand : ℕ → Pose
+armAndHand zero = arm
+armAndHand (suc j) = hand
+
+-- what a frame of this kind shows of them
+abbrev shows : FrameKind → List Matrix4
+shows kind = jointMatrices kind (withParents (root ∷ 0 ∷ [])) armAndHand 2
+
+pub turned-arm-ordinary : shows Ordinary
+    ≡ record { r0 = row 0f 1f 0f half; r1 = row 0f 0f 1f 0f; r2 = row 1f 0f 0f 0f; r3 = row 0f 0f 0f 1f }
+    ∷ record { r0 = row (neg 1f) 0f 0f 1f; r1 = row 0f 1f 0f 0f; r2 = row 0f 0f (neg 1f) 0f; r3 = row 0f 0f 0f 1f } ∷ []
+unfolding all-opened withParents
+turned-arm-ordinary = refl
+
+-- the arm's turn the other way, and the hand put where that arm holds it
+pub turned-arm-page : shows Page
+    ≡ record { r0 = row 0f 0f 1f half; r1 = row 1f 0f 0f 0f; r2 = row 0f 1f 0f 0f; r3 = row 0f 0f 0f 1f }
+    ∷ record { r0 = row (neg 1f) 0f 0f half; r1 = row 0f (neg 1f) 0f 0f; r2 = row 0f 0f 1f half; r3 = row 0f 0f 0f 1f } ∷ []
+unfolding all-opened withParents
+turned-arm-page = refl
+
+-- 'transposing the finished matrix suits roots only'
+pub not-at-the-end : ¬ (getD (shows Page) 1 identityMatrix ≡ upperTransposed (getD (shows Ordinary) 1 identityMatrix))
+unfolding all-opened withParents
+not-at-the-end e =
+    let same : _≡_ {A = ℕ} 0xbf80_0000 0x3f80_0000 = ap (λ m. toBits binary32 (m .r1 .c1)) e in
+    omega arith
+
+-- ---- a root is no special case: with an infinite entry of its own, the product has 0 × infinity
+
+abbrev 2^64f : Float
+2^64f = ofBits binary32 0x5f80_0000
+
+abbrev farTurned : Pose
+farTurned = record { translation = vector 0f 0f 0f; scale = 1f; rotation = quaternion 1f 2^64f 0f 0f }
+
+abbrev rootShows : FrameKind → Matrix4
+rootShows kind = getD (jointMatrices kind (withParents (root ∷ [])) (λ _. farTurned) 1) 0 identityMatrix
+
+pub infinite-root : rootShows Page
+    ≡ record { r0 = row 1f nan nan 0f; r1 = row 0f (inf true) nan 0f; r2 = row 0f nan (inf true) 0f; r3 = row 0f nan nan 1f }
+unfolding all-opened withParents
+infinite-root = refl
+
+-- so it is neither its own matrix nor what the finished one was transposed
+pub root-multiplied : ¬ (rootShows Page ≡ ownMatrix Page (toMatrix farTurned))
+unfolding all-opened withParents
+root-multiplied e =
+    let same : _≡_ {A = ℕ} 0x7fc0_0000 0 = ap (λ m. toBits binary32 (m .r0 .c1)) e in
+    omega arith
+
+pub root-not-as-before : ¬ (rootShows Page ≡ upperTransposed (rootShows Ordinary))
+unfolding all-opened withParents
+root-not-as-before e =
+    let same : _≡_ {A = ℕ} 0x7fc0_0000 0 = ap (λ m. toBits binary32 (m .r0 .c1)) e in
+    omega arith
