@@ -27,6 +27,11 @@ pub enum Fault {
     RefusedFrameWrites,
     RefusedFrameMoves,
     PageNotTransposed,
+    PageTransposedLate,
+    PageParentTransposed,
+    PageRootLeftAlone,
+    PageRootNotMultiplied,
+    PageWhollyTransposed,
     NineForTen,
     FrameRefused,
     FramePlace,
@@ -75,7 +80,7 @@ pub enum Fault {
 }
 
 impl Fault {
-    const OTHERS: [Fault; 52] = [
+    const OTHERS: [Fault; 51] = [
         Fault::ClockWithoutSpeed,
         Fault::SpeedLost,
         Fault::NeighbourSet,
@@ -95,7 +100,6 @@ impl Fault {
         Fault::FloatTooMany,
         Fault::RefusedFrameWrites,
         Fault::RefusedFrameMoves,
-        Fault::PageNotTransposed,
         Fault::NineForTen,
         Fault::FrameRefused,
         Fault::FramePlace,
@@ -147,8 +151,19 @@ impl Fault {
         Fault::TextLimitPassed,
     ];
 
+    /// Those about page frames.
+    pub const OF_PAGES: [Fault; 6] = [
+        Fault::PageNotTransposed,
+        Fault::PageTransposedLate,
+        Fault::PageParentTransposed,
+        Fault::PageRootLeftAlone,
+        Fault::PageRootNotMultiplied,
+        Fault::PageWhollyTransposed,
+    ];
+
     pub fn all() -> impl Iterator<Item = Fault> {
-        Fault::OTHERS.into_iter().chain(Fault::OF_JOINTS)
+        let others = Fault::OTHERS.into_iter();
+        others.chain(Fault::OF_JOINTS).chain(Fault::OF_PAGES)
     }
 }
 
@@ -287,10 +302,6 @@ impl Evaluator for Faulty<'_> {
         output: &mut [f32],
     ) -> Answer {
         let (before, old) = (*player, output.to_vec());
-        let shown = match self.fault {
-            Fault::PageNotTransposed => Shown::Frame,
-            _ => shown,
-        };
         let handed_on = self.plan_handed_on(plan);
         let frame = |plan| Frame {
             shown,
@@ -302,6 +313,7 @@ impl Evaluator for Faulty<'_> {
         self.spoil_refusal(plan, &mut answer);
         if answer.is_accepted() {
             self.spoil_poses(frame(plan), player, output);
+            self.spoil_page(frame(plan), &before, output);
             self.spoil_player(&before, player);
             self.spoil_output(usize::from(plan[0]), &old, output);
             self.spoil_joints(usize::from(plan[0]), &old, output);

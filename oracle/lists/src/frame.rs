@@ -3,6 +3,7 @@
 use crate::evaluator::{HostPlayer, Shown};
 use compare::model::figure::Checked;
 use compare::model::pose::Pose;
+use compare::model::rotation::Matrix;
 use compare::model::skeleton::{matrices, page_matrix};
 use compare::model::tree::Tree;
 use compare::texts::figure::Figure;
@@ -18,11 +19,14 @@ pub struct Frame<'a> {
 
 /// The figure, where it is accepted.
 pub fn checked(plan: &[u16], numbers: &[f32]) -> Option<Checked> {
-    let figure = Figure {
+    Checked::new(&figure(plan, numbers)).ok()
+}
+
+pub fn figure(plan: &[u16], numbers: &[f32]) -> Figure {
+    Figure {
         plan: plan.to_vec(),
         numbers: numbers.iter().map(|float| float.to_bits()).collect(),
-    };
-    Checked::new(&figure).ok()
+    }
 }
 
 impl Frame<'_> {
@@ -38,15 +42,19 @@ impl Frame<'_> {
 
     /// Shows these poses in place of the right ones.
     pub fn write(&self, figure: &Checked, poses: &[Pose], output: &mut [f32]) {
-        let mut shown = matrices(&figure.plan.parents, poses);
-        if self.shown == Shown::Page {
-            shown
-                .iter_mut()
-                .for_each(|matrix| *matrix = page_matrix(matrix));
-        }
-        let entries = shown.into_iter().flatten().flatten();
-        for (float, entry) in output.iter_mut().zip(entries) {
-            *float = entry;
-        }
+        let own = |pose: &Pose| match self.shown {
+            Shown::Frame => pose.matrix(),
+            Shown::Page => page_matrix(&pose.matrix()),
+        };
+        let own: Vec<Matrix> = poses.iter().map(own).collect();
+        write_matrices(&matrices(&figure.plan.parents, &own), output);
+    }
+}
+
+/// At the front of the output.
+pub fn write_matrices(matrices: &[Matrix], output: &mut [f32]) {
+    let entries = matrices.iter().flatten().flatten();
+    for (float, entry) in output.iter_mut().zip(entries) {
+        *float = *entry;
     }
 }

@@ -9,6 +9,8 @@ mod faults;
 mod frame;
 mod joint_faults;
 mod output;
+mod page_faults;
+mod page_sweep;
 mod parents;
 mod pause_faults;
 mod pauses;

@@ -1,6 +1,7 @@
 //! Random figures with random steps, random plans and random texts, and behind each the fixed ones.
 
 use crate::evaluator::{Evaluator, HostPlayer};
+use crate::page_sweep;
 use crate::plans::{self, random_plan, same_start};
 use crate::run::{run, run_steps, same, Case, Counts, Mismatch};
 use crate::shrink::shrunk;
@@ -88,7 +89,7 @@ pub fn compare(evaluator: &dyn Evaluator, amounts: Amounts, seed: u64) -> (Found
             return (Found::List(Box::new(case)), counts);
         }
     }
-    for case in sweep::cases() {
+    for case in sweep::cases().chain(page_sweep::cases()) {
         if run(&case, evaluator, &mut counts[0]).is_some() {
             return (Found::List(Box::new(case)), counts);
         }

@@ -3,7 +3,7 @@
 
 pub mod call;
 mod cases;
-pub(crate) mod figures;
+pub mod figures;
 pub mod random_calls;
 pub mod recorded;
 pub mod report;

@@ -70,6 +70,24 @@ impl Model {
 
     /// Each joint's matrix, for an output of so many floats.
     pub fn frame(&mut self, ext: f64, length: usize) -> Result<Vec<Matrix>, Refusal> {
+        let own = self.own_matrices(ext, length)?;
+        Ok(self.joined(&own))
+    }
+
+    /// The same from own matrices that are transposed first.
+    pub fn page_frame(&mut self, ext: f64, length: usize) -> Result<Vec<Matrix>, Refusal> {
+        let own = self.own_matrices(ext, length)?;
+        let own: Vec<Matrix> = own.iter().map(skeleton::page_matrix).collect();
+        Ok(self.joined(&own))
+    }
+
+    fn joined(&self, own: &[Matrix]) -> Vec<Matrix> {
+        let plan = self.plan().expect("a frame was accepted");
+        skeleton::matrices(&plan.parents, own)
+    }
+
+    /// A frame up to the joints' own matrices: the player moves.
+    pub fn own_matrices(&mut self, ext: f64, length: usize) -> Result<Vec<Matrix>, Refusal> {
         let figure = self.figure.as_ref().map_err(|refusal| *refusal)?;
         let player = &mut self.player;
         let is_absent = |state: usize| state >= figure.plan.states.len();
@@ -83,12 +101,7 @@ impl Model {
         let now = player.clock + ext;
         controller::step(figure, player, now);
         let poses = controller::poses(figure, player, ext);
-        Ok(skeleton::matrices(&figure.plan.parents, &poses))
-    }
-
-    pub fn page_frame(&mut self, ext: f64, length: usize) -> Result<Vec<Matrix>, Refusal> {
-        let matrices = self.frame(ext, length)?;
-        Ok(matrices.iter().map(skeleton::page_matrix).collect())
+        Ok(poses.iter().map(|pose| pose.matrix()).collect())
     }
 }
 
@@ -98,6 +111,8 @@ fn refused<T>(number: u8) -> Result<T, Refusal> {
 
 #[cfg(test)]
 mod joint_tests;
+#[cfg(test)]
+mod page_tests;
 #[cfg(test)]
 mod pause_tests;
 #[cfg(test)]

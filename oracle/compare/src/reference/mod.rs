@@ -4,6 +4,7 @@
 //! empty, is played by the model alone, since the Rust has no such figures.
 
 pub mod controller;
+mod page;
 mod rust;
 
 use crate::judge::matrix_bits;

@@ -2,6 +2,7 @@
 //! alone.
 
 use super::controller::{self, name, Controller};
+use super::page::PageMatrix;
 use crate::player::{Instance, Player, Running, BLANK_INSTANCE, INSTANCES, PARAMETERS};
 use crate::texts::figure::{Figure, Refusal};
 use crate::texts::plan::{check, Node, Plan};
@@ -10,7 +11,7 @@ use skeletal_animation::blend_tree::access::{clip_places, instance, instance_mut
 use skeletal_animation::controller::access::{fields, fields_mut};
 use skeletal_animation::controller::{AnimationTransition, Operator, TransitionCondition};
 use skeletal_animation::math::Matrix4;
-use skeletal_animation::transform::{QVTransform, Transform};
+use skeletal_animation::transform::{FromTransform, QVTransform, Transform};
 
 /// The smallest plan. Its fresh player is the blank one.
 const SMALLEST: [u16; 14] = [1, 1, 0, 1, 0, 255, 1, 0, 1, 0, 0, 0, 0, 0];
@@ -74,6 +75,20 @@ impl RustPlayer {
 
     /// Each joint's matrix, for an output of so many floats.
     pub fn frame(&mut self, ext: f64, length: usize) -> Result<Vec<Matrix4<f32>>, Refusal> {
+        self.output_pose(ext, length)
+    }
+
+    /// The same by the Rust's own walk over the skeleton, with page matrices for its output.
+    pub fn page_frame(&mut self, ext: f64, length: usize) -> Result<Vec<Matrix4<f32>>, Refusal> {
+        let matrices = self.output_pose::<PageMatrix>(ext, length)?;
+        Ok(matrices.into_iter().map(|page| page.0).collect())
+    }
+
+    fn output_pose<T: Transform + FromTransform<QVTransform>>(
+        &mut self,
+        ext: f64,
+        length: usize,
+    ) -> Result<Vec<T>, Refusal> {
         let plan = self.checked.as_ref().map_err(|refusal| *refusal)?;
         let states = plan.states.len();
         let joints = plan.parents.len();
@@ -85,14 +100,9 @@ impl RustPlayer {
         if length < 16 * joints {
             return refused(10);
         }
-        let mut output = vec![Matrix4::identity(); joints];
+        let mut output = vec![T::identity(); joints];
         self.controller.get_output_pose(ext, &mut output);
         Ok(output)
-    }
-
-    pub fn page_frame(&mut self, ext: f64, length: usize) -> Result<Vec<Matrix4<f32>>, Refusal> {
-        let matrices = self.frame(ext, length)?;
-        Ok(matrices.into_iter().map(page_matrix).collect())
     }
 
     /// The player that the controller holds.
@@ -225,15 +235,4 @@ fn begun(running: Running) -> (f64, AnimationTransition) {
         duration: running.duration,
     };
     (running.start, transition)
-}
-
-/// The upper 3x3 part transposed.
-fn page_matrix(matrix: Matrix4<f32>) -> Matrix4<f32> {
-    let mut page = matrix;
-    for (i, row) in page.iter_mut().take(3).enumerate() {
-        for (j, entry) in row.iter_mut().take(3).enumerate() {
-            *entry = matrix[j][i];
-        }
-    }
-    page
 }

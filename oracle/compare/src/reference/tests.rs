@@ -108,9 +108,9 @@ fn a_stored_player_is_held_whole() {
     }
 }
 
-/// Only entries (0, 1), (0, 2), (1, 2) and their mirror images change places.
+/// Of a root only entries (0, 1), (0, 2), (1, 2) and their mirror images change places.
 #[test]
-fn a_page_matrix_is_turned_in_its_upper_part() {
+fn a_roots_page_matrix_is_turned_in_its_upper_part() {
     let [mut one, mut other] = [(); 2].map(|()| Reference::start(&blend()));
     let frame = one.frame(0.0, 16).unwrap()[0];
     let page = other.page_frame(0.0, 16).unwrap()[0];

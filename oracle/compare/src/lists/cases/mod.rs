@@ -1,6 +1,7 @@
 //! The recorded lists one by one.
 
 mod endings;
+mod pages;
 mod pauses;
 mod players;
 mod refused;
@@ -32,6 +33,8 @@ pub fn cases() -> Vec<List> {
         pauses::clips(),
         pauses::joins(),
         pauses::transitions(),
+        pages::still_figures(),
+        pages::moving_figures(),
         players::speeds(),
         players::clocks(),
         players::parameters(),
