@@ -143,8 +143,9 @@ gentianlathe_answer gentianlathe_frame(const uint16_t *plan, size_t plan_length,
                                        float *output, size_t output_length);
 
 /*
- * The same, but that the upper 3x3 of each matrix is transposed in the end; docs/PLAYING.md says what for, and what
- * that does to a child of a turned parent. Refused likewise.
+ * The same, but that the upper 3x3 of each joint's own matrix is transposed before its parent's is multiplied on: for
+ * rotations as glTF, three.js and web pages have them (docs/PLAYING.md, examples/page.md). Frames of both kinds may be
+ * asked for in turns; the player moves alike. Refused likewise.
  */
 gentianlathe_answer gentianlathe_page_frame(const uint16_t *plan, size_t plan_length,
                                             const float *numbers, size_t numbers_length,

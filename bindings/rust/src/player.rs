@@ -201,7 +201,20 @@ impl Player {
         )
     }
 
-    /// Shows a page frame: as [`Player::frame`], but that the upper 3×3 of each matrix is transposed in the end.
+    /// Shows a page frame: as [`Player::frame`], but that the upper 3×3 of each joint's own matrix is transposed before
+    /// its parent's is multiplied on: for rotations as glTF, three.js and web pages have them. The player moves alike.
+    ///
+    /// ```
+    /// # use gentianlathe::Figure;
+    /// // An arm turned by a right angle about z, and a hand 0.5 along it.
+    /// let figure = Figure::from_text(include_bytes!("../../../examples/page.figure"))?;
+    /// let [mut frame, mut page] = [[0.0; 32]; 2];
+    /// figure.start().frame(&figure, 0.0, &mut frame)?;
+    /// figure.start().page_frame(&figure, 0.0, &mut page)?;
+    /// // The hand's height: below the arm's joint at 1.5, and above it.
+    /// assert_eq!((frame[16 + 7], page[16 + 7]), (1.0016913, 1.9983087));
+    /// # Ok::<(), gentianlathe::Refusal>(())
+    /// ```
     ///
     /// # Errors
     ///

@@ -20,6 +20,7 @@ pub mod Text
 pub mod Reading
 pub mod Output
 pub mod Stores
+pub mod Signs
 pub mod Classes
 pub mod Wholes
 pub mod Narrowing

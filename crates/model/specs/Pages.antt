@@ -5,14 +5,14 @@ use mathlib.Core.Path.{_≡_, refl, ap, sym, _∙_}
 use mathlib.Core.Bool.{true, false}
 use mathlib.Core.List.{List, [], _∷_}
 use lib.ListN.{length, getD}
-use lib.Ieee.{Float, nan, inf, neg, binary32, toBits, ofBits}
+use lib.Ieee.{Float, nan, inf, neg, sub, binary32, toBits, ofBits}
 use Rattle.model.specs.declared.Pose.{Pose}
 use Rattle.model.specs.declared.Matrix4.{Matrix4}
 use Rattle.model.specs.declared.Player.{Player}
 use Rattle.model.specs.declared.FrameKind.{FrameKind}
 use Rattle.model.specs.declared.FrameKind.the-variants.{Ordinary, Page}
-use Rattle.model.specs.Numbers.{0f, 1f, half}
-use Rattle.model.specs.Rotations.{quaternion, row, identityMatrix, product}
+use Rattle.model.specs.Numbers.{_+₃₂_, _*₃₂_, 0f, 1f, half}
+use Rattle.model.specs.Rotations.{quaternion, row, identityMatrix, product, quaternionToMatrix}
 use Rattle.model.specs.Pose.{vector, toMatrix}
 use Rattle.model.specs.Answers.{accepted}
 use Rattle.model.specs.Plan.{root, jointCount, parent, isRoot}
@@ -22,8 +22,9 @@ use Rattle.model.specs.Skeleton.{upperTransposed, ownMatrix, parentMatri
 use Rattle.model.specs.Run.{frameStepped, frameMatrices}
 use Rattle.model.specs.Bench.{withParents}
 use Rattle.model.specs.Laws.Opened.{all-opened}
-use Rattle.model.specs.Laws.Table.{table-at}
+use Rattle.model.specs.Laws.Table.{table-at, table-same}
 use Rattle.model.specs.Laws.Passed.{parent-earlier}
+use Rattle.model.specs.Laws.Signs.{neg-neg, mul-neg, mul-neg-neg, twice-neg}
 
 -- ---- a frame of either kind, as it is finished
 
@@ -55,9 +56,50 @@ module _ (plan : List ℕ) (numbers : List Float) (p : Player) (ext : Float) (ki
       rw (e, same) at (entry-of j h)
 
 -- 'ordinary frames stay the Rust's'
+ordinary-own : (m : Matrix4) → ownMatrix Ordinary m ≡ m
+unfolding ownMatrix
+ordinary-own m = refl
+
 pub ordinary-stays : (plan : List ℕ) (poseOf : ℕ → Pose) (earlier : List Matrix4) (j : ℕ) → jointMatrix Ordinary plan poseOf earlier j ≡ product (parentMatrix plan earlier j) (toMatrix (poseOf j))
-unfolding jointMatrix ownMatrix
-ordinary-stays plan poseOf earlier j = refl
+unfolding jointMatrix
+ordinary-stays plan poseOf earlier j = ap (product (parentMatrix plan earlier j)) (ordinary-own (toMatrix (poseOf j)))
+
+-- ---- what the transposing does to a rotation: it is the matrix of the conjugate, float by float, whatever the pose holds
+
+abbrev conjugated : Pose → Pose
+conjugated p = let q = p .rotation in record { translation = p .translation; scale = p .scale; rotation = quaternion (q .w) (neg (q .x)) (neg (q .y)) (neg (q .z)) }
+
+pub own-conjugated : (p : Pose) → ownMatrix Page (toMatrix p) ≡ toMatrix (conjugated p)
+unfolding ownMatrix upperTransposed toMatrix quaternionToMatrix sub
+own-conjugated p =
+    let q = p .rotation in
+    let x2 = q .x +₃₂ q .x in
+    let y2 = q .y +₃₂ q .y in
+    let z2 = q .z +₃₂ q .z in
+    let f = binary32 in
+    rw (
+      twice-neg f (q .x),
+      twice-neg f (q .y),
+      twice-neg f (q .z),
+      mul-neg-neg f x2 (q .x),
+      mul-neg-neg f x2 (q .y),
+      mul-neg-neg f x2 (q .z),
+      mul-neg-neg f y2 (q .y),
+      mul-neg-neg f y2 (q .z),
+      mul-neg-neg f z2 (q .z),
+      mul-neg f x2 (q .w),
+      mul-neg f y2 (q .w),
+      mul-neg f z2 (q .w),
+      neg-neg (x2 *₃₂ q .w),
+      neg-neg (y2 *₃₂ q .w),
+      neg-neg (z2 *₃₂ q .w),
+    )
+
+-- so a page frame's matrices are those of a frame that shows the conjugated poses
+pub page-conjugated : (plan : List ℕ) (poseOf : ℕ → Pose) (n : ℕ) → jointMatrices Page plan poseOf n ≡ jointMatrices Ordinary plan (λ j. conjugated (poseOf j)) n
+unfolding jointMatrices jointMatrix
+page-conjugated plan poseOf n =
+    table-same _ _ n (λ earlier j h. ap (product (parentMatrix plan earlier j)) (own-conjugated (poseOf j) ∙ sym (ordinary-own (toMatrix (conjugated (poseOf j))))))
 
 -- ---- a hand on a turned arm. Each turns by a third, about axes of their own, so nothing is rounded
 
