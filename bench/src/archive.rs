@@ -66,6 +66,27 @@ impl Archive {
         assert_eq!(answer, ACCEPTED);
     }
 
+    /// The same by a page frame.
+    pub fn play_page(&mut self, delta: f64, ext: f64) {
+        // SAFETY: a player that is ours.
+        unsafe { sys::gentianlathe_update(&mut self.player, delta) }
+        let (plan, numbers, output) = (&self.plan, &self.numbers, &mut self.output);
+        // SAFETY: three slices and a player, all apart.
+        let answer = unsafe {
+            sys::gentianlathe_page_frame(
+                plan.as_ptr(),
+                plan.len(),
+                numbers.as_ptr(),
+                numbers.len(),
+                &mut self.player,
+                ext,
+                output.as_mut_ptr(),
+                output.len(),
+            )
+        };
+        assert_eq!(answer, ACCEPTED);
+    }
+
     /// A frame that is refused for its output, after the whole check of the figure.
     pub fn check(&mut self) {
         let answer = self.frame(self.plan.len(), 0.0, 0);

@@ -9,6 +9,7 @@
 mod archive;
 mod draft;
 mod measure;
+mod pages;
 mod reference;
 #[allow(dead_code)]
 #[path = "../../bindings/rust/src/sys.rs"]
@@ -310,6 +311,7 @@ fn main() {
     sizes(time);
     growths(time);
     many_joints(time);
+    pages::pages(time);
     endings(time);
     texts(time);
 }

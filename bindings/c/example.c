@@ -1,12 +1,12 @@
 /*
  * A small host in C: reads a figure's text, starts it, shows frames.
  *
- *     example [FIGURE [SECONDS [PARAMETER VALUE]]]
+ *     example [-p] [FIGURE [SECONDS [PARAMETER VALUE]]]
  *
  * FIGURE is a file with a figure's text (default: examples/printed.figure, from the repository's folder).
  * The first frame right after the start is printed as the program gentianlathe prints it, with ext 0. Where
  * SECONDS are given the player is then updated by them, the parameter takes its value if one is named, and
- * a second frame is printed.
+ * a second frame is printed. With -p both are page frames.
  *
  * A refusal is printed as `refused,number,place`, and put in words on standard error.
  * Exit status: 0 shown, 1 refused, 2 something else went wrong (usage, file, memory, a foreign archive).
@@ -33,6 +33,7 @@ typedef struct {
 } figure;
 
 typedef struct {
+    int pages; /* whether page frames are asked for */
     const char *path;
     int again; /* whether a second frame is asked for */
     double seconds;
@@ -126,10 +127,10 @@ static unsigned long printed_bits(float value)
     return value != value ? 0x7fc00000ul : (unsigned long)bits;
 }
 
-static int show(const figure *shown, gentianlathe_player *player, float *output, size_t length)
+static int show(const figure *shown, int pages, gentianlathe_player *player, float *output, size_t length)
 {
-    gentianlathe_answer answer = gentianlathe_frame(shown->plan, shown->words, shown->numbers, shown->count, player,
-                                                    0.0, output, length);
+    gentianlathe_answer answer = (pages ? gentianlathe_page_frame : gentianlathe_frame)(
+        shown->plan, shown->words, shown->numbers, shown->count, player, 0.0, output, length);
     if (answer.number != 0)
         return refuse(answer.number, answer.place);
     for (size_t i = 0; i < length; i++) {
@@ -151,7 +152,7 @@ static int play(const figure *played, const options *asked)
         return refuse(answer.number, answer.place);
     size_t length = gentianlathe_output_length(played->plan, played->words);
     float *output = allocate(length, sizeof *output);
-    int status = show(played, &player, output, length);
+    int status = show(played, asked->pages, &player, output, length);
     if (status == SHOWN && asked->again) {
         gentianlathe_update(&player, asked->seconds);
         if (asked->sets) {
@@ -159,7 +160,7 @@ static int play(const figure *played, const options *asked)
             status = answer.number == 0 ? SHOWN : refuse(answer.number, answer.place);
         }
         if (status == SHOWN)
-            status = show(played, &player, output, length);
+            status = show(played, asked->pages, &player, output, length);
     }
     free(output);
     return status;
@@ -167,7 +168,7 @@ static int play(const figure *played, const options *asked)
 
 static int usage(void)
 {
-    fprintf(stderr, "usage: example [FIGURE [SECONDS [PARAMETER VALUE]]]\n");
+    fprintf(stderr, "usage: example [-p] [FIGURE [SECONDS [PARAMETER VALUE]]]\n");
     return FAILED;
 }
 
@@ -175,6 +176,11 @@ static int parse(int count, char **words, options *asked)
 {
     char *end = NULL;
     memset(asked, 0, sizeof *asked);
+    if (count > 1 && strcmp(words[1], "-p") == 0) {
+        asked->pages = 1;
+        count--;
+        words++;
+    }
     asked->path = count > 1 ? words[1] : "examples/printed.figure";
     if (count == 4 || count > 5)
         return usage();

@@ -69,30 +69,6 @@ fn sixteen_floats_in_a_page_frame() {
     assert_eq!(output[16..], [9.0; 4], "what follows is kept");
 }
 
-#[test]
-fn page_frame_transposes() {
-    let (plan, numbers) = two_states();
-    let figure = Figure::new(plan, numbers).expect("two states");
-    let frame = first_frame(&figure);
-    let mut page = vec![0.0; figure.output_len()];
-    figure
-        .start()
-        .page_frame(&figure, 0.0, &mut page)
-        .expect("a fresh player is shown");
-    assert_ne!(seen(&page), seen(&frame));
-    for (page, frame) in page.chunks_exact(16).zip(frame.chunks_exact(16)) {
-        for (row, column) in (0..4).flat_map(|row| (0..4).map(move |column| (row, column))) {
-            let within = row < 3 && column < 3;
-            let from = if within {
-                4 * column + row
-            } else {
-                4 * row + column
-            };
-            assert_eq!(page[4 * row + column].to_bits(), frame[from].to_bits());
-        }
-    }
-}
-
 /// What the program prints for a text.
 fn printed(text: &[u8]) -> String {
     let figure = match Figure::from_text(text) {

@@ -137,26 +137,44 @@ pub fn there_and_back() {
     framed(&plan, &numbers, update(again, 1.0), 0.5);
 }
 
-// One joint, turned by the rotation ½ ½ ½ ½.
+// An arm turned by the rotation ½ ½ ½ ½, and on it a hand turned by ½ −½ ½ ½.
 pub fn page() {
-    let plan: [u16; 14] = [1, 1, 0, 1, 0, NO_PARENT, 1, 0, 1, 0, 0, 0, 0, 0];
-    let numbers: [f32; 9] = [1.0, 1.0, 2.0, 3.0, 1.0, 0.5, 0.5, 0.5, 0.5];
-    let mut output = [0.0f32; MATRIX_FLOATS];
+    let plan: [u16; 15] = [2, 1, 0, 1, 0, NO_PARENT, 0, 1, 0, 1, 0, 0, 0, 0, 0];
+    let numbers: [f32; 17] = [
+        1.0,
+        1.0,
+        2.0,
+        3.0,
+        1.0,
+        0.5,
+        0.5,
+        0.5,
+        0.5,
+        0.0,
+        4.0,
+        0.0,
+        1.0,
+        0.5,
+        -0.5,
+        0.5,
+        0.5,
+    ];
+    let mut output = [0.0f32; 2 * MATRIX_FLOATS];
     show::text(
-        b"# page: a turned joint, as a frame and as a page frame; a refused one writes nothing\n",
+        b"# page: a hand on a turned arm, as a frame and as a page frame; a refused one writes nothing\n",
     );
     let begun = start(&plan, &numbers);
     let player = begun.player;
     let shown = frame(&plan, &numbers, player, 0.0, &mut output);
-    show::joints(1, &output);
+    show::joints(2, &output);
     let paged = page_frame(&plan, &numbers, player, 0.0, &mut output);
     let answer = paged.answer;
     show::answer(b"page\n", answer);
-    show::joints(1, &output);
-    let refused = page_frame(&plan[..13], &numbers, player, 0.0, &mut output);
+    show::joints(2, &output);
+    let refused = page_frame(&plan[..14], &numbers, player, 0.0, &mut output);
     let refusal = refused.answer;
     show::answer(b"page\n", refusal);
-    show::joints(1, &output);
+    show::joints(2, &output);
 }
 
 // Three samples at two a second, x being 1, 2 and 4, at position 2.5.
