@@ -13,7 +13,7 @@ use borrow.Author.Tests.{eq-eqb, ne-eqb}
 use Rattle.model.specs.Answers.{accepted}
 use Rattle.model.specs.Plan.{maxClipNodes, sampleCount, isEmpty, stateCount, nodeCount, isClip, isLerp, total, clipNodesBefore, clipNode}
 use Rattle.model.specs.Check.{checkState}
-use Rattle.model.specs.Laws.Touched.{plays-some, touched-blends, touched-a, touched-b}
+use Rattle.model.specs.Laws.Touched.{touched-blends, touched-a, touched-b}
 use Rattle.model.specs.Laws.ClipNodes.{first-clip-node, clip-counts, blend-counts-not}
 use Rattle.model.specs.Laws.State.{few-clip-nodes}
 use Rattle.model.specs.Laws.Passed.{state-passed}
@@ -22,8 +22,6 @@ use Rattle.layout.specs.declared.StateLayout.{StateLayout}
 use Rattle.layout.specs.declared.Node.{Node}
 use Rattle.layout.specs.Layout.{Passes, InPlan, nodeOf}
 use Rattle.layout.proofs.Laws.{here-ok, nodes-counted}
-use Rattle.blend_tree.specs.declared.sampling.Clip.{Clip}
-use Rattle.blend_tree.specs.Sampling.{clipOf}
 use Rattle.blend_tree.proofs.NodeLaws.{is-clip, no-clip}
 
 module _ (plan : List ℕ) (s i : ℕ) {n : Node} (e : n ≡ nodeOf plan s i) where
@@ -45,11 +43,6 @@ module _ (plan : List ℕ) (s i : ℕ) {n : Node} (e : n ≡ nodeOf plan s i) wh
   pub touched-inputs : isTouched plan s i ≡ true → (isClip plan s i ≡ false) × (isClip plan s (n .a) ≡ true) × (isClip plan s (n .b) ≡ true)
   unfolding nodeOf
   touched-inputs t = (touched-blends plan s i t, rw e (touched-a plan s i t), rw e (touched-b plan s i t))
-
-  -- whether its clip has samples, if it is a clip node
-  pub clip-has-samples : playsSamples plan s i ≡ true → (numbers : List Float) {clip : Clip} → clip ≡ clipOf plan numbers (n .a) → clip .samples ≡ 0 → ⊥
-  unfolding nodeOf clipOf
-  clip-has-samples t numbers ec none = plays-some plan s i t (rw (ec, e) at none)
 
   pub plays-nothing : (n .kind ≡ 0 → ⊥) → playsSamples plan s i ≡ false
   unfolding playsSamples

@@ -97,7 +97,7 @@ fn target_length(p: f32, length_a: f32, length_b: f32) -> f32
 }
 
 // Whether node i plays a clip that has samples.
-pub fn plays_samples(plan: &[u16], layout: Layout, here: StateLayout, i: usize) -> bool
+fn plays_samples(plan: &[u16], layout: Layout, here: StateLayout, i: usize) -> bool
     requires { ⌜ Passes (now plan) × (layout ≡ layoutOf (now plan)) × InPlan (now plan) here × (i < here .nodes) ⌝ }
     ensures { λ r. ⌜ r ≡ playsSamples (now (plan .entry)) (here .state) i ⌝ }
 {

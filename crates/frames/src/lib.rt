@@ -1,7 +1,6 @@
 // A frame and a page frame on the parts of a player, which their owner lends, so that nothing large is copied.
 // `controller` has both on a player by value.
 use blend_tree::StateAt;
-use blend_tree::synchronize::plays_samples;
 use float::narrow;
 use layout::Layout;
 use layout::StateLayout;
@@ -25,7 +24,6 @@ ghost use mathlib.Core.Bool.{true};
 ghost use Prim.Native.Nat.{_<_, _≤_};
 ghost use Rattle.model.specs.declared.Transition.the-variants as Transition;
 ghost use Rattle.model.specs.Plan.{maxJoints, stateCount};
-ghost use Rattle.model.specs.Tree.{playsSamples};
 ghost use Rattle.model.specs.Controller.{isTargetBelow};
 ghost use Rattle.layout.specs.Layout.{layoutOf, stateLayout, Passes, InPlan};
 ghost use Rattle.blend_tree.specs.Blocks.{Playable};
@@ -76,13 +74,10 @@ fn layout_of(plan: &[u16], layout: Layout, here: StateLayout, state: usize) -> S
     state_layout(plan, layout, state)
 }
 
-// One joint, one clip that has samples, and no transition. It is asked here, since the way through `show` costs more
-// than the pose.
-fn is_single(plan: &[u16], layout: Layout, here: StateLayout, transition: Transition) -> bool
-    requires { ⌜ Passes (now plan) × (layout ≡ layoutOf (now plan)) × InPlan (now plan) here ⌝ }
+// One joint, one clip, and no transition. It is asked here, since the way through `show` costs more than the pose.
+fn is_single(layout: Layout, here: StateLayout, transition: Transition) -> bool
     ensures { λ r. ⌜
-        (r ≡ true → (layout .joints ≡ 1) × (here .nodes ≡ 1)
-        × (playsSamples (now (plan .entry)) (here .state) 0 ≡ true) × (transition ≡ Transition.Idle))
+        (r ≡ true → (layout .joints ≡ 1) × (here .nodes ≡ 1) × (transition ≡ Transition.Idle))
         ⌝ }
 {
     let Transition::Idle = transition else {
@@ -91,10 +86,7 @@ fn is_single(plan: &[u16], layout: Layout, here: StateLayout, transition: Transi
     if layout.joints != 1 {
         return false;
     }
-    if here.nodes != 1 {
-        return false;
-    }
-    plays_samples(plan, layout, here, 0)
+    here.nodes == 1
 }
 
 // Steps 1 to 3 of a frame that nothing refuses.
@@ -134,7 +126,7 @@ fn play(
         here: layout_of(plan, layout, before, stepped.state),
         time: narrow(clock + ext * speed),
     };
-    if is_single(plan, layout, state.here, next) {
+    if is_single(layout, state.here, next) {
         show_joint(kind, plan, numbers, state, instances, output);
         return stepped;
     }

@@ -15,19 +15,23 @@ use float::narrow;
 use float::widen;
 use lanes::BLOCK_FLOATS;
 use lanes::BLOCK_SIZE;
+use layout::Layout;
 use layout::node_at;
 use layout::state_layout;
+use model::ClipInstance;
 use model::FrameKind;
+use model::Pose;
 use model::Transition;
 use model::limits::MAX_INSTANCES;
 use model::limits::MAX_PARAMETERS;
 use skeleton::calculate_global_poses;
 use skeleton::calculate_root_pose;
+use transform::identity;
 ghost use mathlib.Core.Path.{_≡_};
 ghost use mathlib.Core.Bool.{true};
 ghost use Prim.Native.Nat.{_+_, _<_, _≤_};
-ghost use Rattle.model.specs.Plan.{stateCount};
-ghost use Rattle.model.specs.Tree.{playsSamples};
+ghost use Rattle.model.specs.Plan.{clipCount, stateCount};
+ghost use Rattle.model.specs.Clips.{localTime, clipPose};
 ghost use Rattle.model.specs.Controller.{isTargetBelow, transitionFactor};
 ghost use Rattle.lanes.specs.Lanes.{blockSize};
 ghost use Rattle.blend_tree.specs.Blocks.{FilledFor, Playable, InBlock, PlayableState, SlottedState};
@@ -154,7 +158,34 @@ fn show_blocks(
     }
 }
 
-// A figure of one joint in a state of one clip that has samples. It needs no block, and is not synchronised.
+// The first joint's pose in a clip.
+fn clip_pose(
+    plan: &[u16],
+    numbers: &[f32],
+    layout: Layout,
+    number: usize,
+    instance: ClipInstance,
+    time: f32,
+) -> Pose
+    requires { ⌜
+        Playable (now plan) (now numbers) layout
+        × (number < clipCount (now plan))
+        × (0 < layout .joints)
+        ⌝ }
+    ensures { λ r. ⌜
+        r ≡ clipPose (now (plan .entry)) (now (numbers .entry)) number 0 (localTime instance time)
+        ⌝ }
+{
+    let clip = clip_at(plan, numbers, layout, number);
+    if clip.samples == 0 {
+        return identity();
+    }
+    let position = clip_position(clip, instance, time);
+    let samples = clip_samples(clip, position);
+    joint_pose(numbers, layout, samples, 0)
+}
+
+// A figure of one joint in a state of one clip. It needs no block, and is not synchronised.
 pub fn show_joint(
     kind: FrameKind,
     plan: &[u16],
@@ -167,7 +198,6 @@ pub fn show_joint(
         PlayableState (now plan) (now numbers) state
         × (state .layout .joints ≡ 1)
         × (state .here .nodes ≡ 1)
-        × (playsSamples (now plan) (state .here .state) 0 ≡ true)
         × HasRoom (now plan) (now output)
         ⌝ }
     ensures { λ _. ⌜
@@ -177,10 +207,8 @@ pub fn show_joint(
 {
     let number = node_at(plan, state.here, 0).a;
     let instance = instance_at(instances, state.here.clip_node);
-    let clip = clip_at(plan, numbers, state.layout, number);
-    let position = clip_position(clip, instance, state.time);
-    let samples = clip_samples(clip, position);
-    calculate_root_pose(kind, joint_pose(numbers, state.layout, samples, 0), output);
+    let pose = clip_pose(plan, numbers, state.layout, number, instance, state.time);
+    calculate_root_pose(kind, pose, output);
 }
 
 // ---- synchronising

@@ -26,16 +26,6 @@ layout-of-requires c κs =
     let s = l .before .before .before .before in
     (passes (s .pre .0), s .pre .0 .found, in-plan _ _ (l .state-layout .ensures) (s .pre .1), still-below _ _ (player s) _ _ _ (l .state-layout .ensures) (c .step .ensures) (s .pre .0 .passed) (s .pre .1) (s .pre .2))
 
-is-single-requires : tie.Need-is-single-requires
-unfolding nowAt
-is-single-requires c κs =
-    let h = c .before in
-    let t = h .before in
-    let l = t .before in
-    let s = l .before .before .before .before in
-    let below = still-below _ _ (player s) _ _ _ (l .state-layout .ensures) (t .step .ensures) (s .pre .0 .passed) (s .pre .1) (s .pre .2) in
-    (passes (s .pre .0), s .pre .0 .found, in-plan _ _ (h .layout-of .ensures) below)
-
 show-joint-requires : tie.Need-show-joint-requires
 unfolding nowAt
 show-joint-requires c κs =
@@ -47,7 +37,7 @@ show-joint-requires c κs =
     let s = l .before .before .before .before in
     let below = still-below _ _ (player s) _ _ _ (l .state-layout .ensures) (t .step .ensures) (s .pre .0 .passed) (s .pre .1) (s .pre .2) in
     let single = g .is-single .ensures (x .if1 .taken) in
-    ((s .pre .0, in-plan _ _ (h .layout-of .ensures) below), single .0, single .1, single .2, s .pre .3)
+    ((s .pre .0, in-plan _ _ (h .layout-of .ensures) below), single .0, single .1, s .pre .3)
 
 returns : tie.Need-returns
 unfolding nowAt elapsed
@@ -62,7 +52,7 @@ returns c =
     let s = l .before .before .before .before in
     let below = still-below _ _ (player s) _ _ _ (l .state-layout .ensures) (t .step .ensures) (s .pre .0 .passed) (s .pre .1) (s .pre .2) in
     let single = g .is-single .ensures (x .if1 .taken) in
-    let shown = shown-alone (s .pre .0) (in-plan _ _ (h .layout-of .ensures) below) (single .1) _ _ _ _ _ _ _ _ (single .3) (w .show-joint .ensures) in
+    let shown = shown-alone (s .pre .0) (in-plan _ _ (h .layout-of .ensures) below) (single .1) _ _ _ _ _ _ _ _ (single .2) (w .show-joint .ensures) in
     played _ _ _ _ _ _ (l .state-layout .ensures) (t .step .ensures) _ _ (h .layout-of .ensures) _ (n .narrow .ensures) _ _ _ shown
 
 show-requires : tie.Need-show-requires
@@ -87,4 +77,4 @@ returns-2 c =
     played _ _ _ _ _ _ (l .state-layout .ensures) (t .step .ensures) _ _ (h .layout-of .ensures) _ (n .narrow .ensures) _ _ _ (w .show .ensures)
 
 pub play-spec : {M : Type 1} → statement M
-play-spec = tie.close (tie.spec (λ c κs. search needs) step-requires layout-of-requires (search needs) is-single-requires show-joint-requires (search needs) returns show-requires (search needs) returns-2)
+play-spec = tie.close (tie.spec (λ c κs. search needs) step-requires layout-of-requires (search needs) (search needs) show-joint-requires (search needs) returns show-requires (search needs) returns-2)

@@ -1,21 +1,17 @@
--- A node that plays samples is a clip node whose clip has some. One that synchronising touches is a lerp node, and both its inputs are clip nodes.
+-- A node that plays samples is a clip node. One that synchronising touches is a lerp node, and both its inputs are clip nodes.
 use Prim.Native.Nat.{ℕ}
 use mathlib.Core.Path.{_≡_}
 use mathlib.Core.Bool.{true, false, _&&_}
 use mathlib.Core.List.{List}
-use borrow.Author.Tests.{eqb-true, eqb-false}
-use Rattle.model.specs.Plan.{sampleCount, isEmpty, kind, isClip, isLerp, inputA, inputB}
+use borrow.Author.Tests.{eqb-true}
+use Rattle.model.specs.Plan.{kind, isClip, isLerp, inputA, inputB}
 use Rattle.model.specs.Tree.{playsSamples, isTouched}
-use Rattle.model.specs.Laws.Tests.{and-left, and-right, not-true}
+use Rattle.model.specs.Laws.Tests.{and-left, and-right}
 
 module _ (plan : List ℕ) (s i : ℕ) where
   pub plays-clip : playsSamples plan s i ≡ true → isClip plan s i ≡ true
   unfolding playsSamples
   plays-clip e = and-left _ _ e
-
-  pub plays-some : playsSamples plan s i ≡ true → sampleCount plan (inputA plan s i) ≡ 0 → ⊥
-  unfolding playsSamples isEmpty
-  plays-some e = eqb-false _ _ (not-true _ (and-right (isClip plan s i) _ e))
 
 module _ (plan : List ℕ) (s i : ℕ) (t : isTouched plan s i ≡ true) where
   pub touched-blends : isClip plan s i ≡ false
