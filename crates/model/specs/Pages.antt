@@ -3,7 +3,7 @@ use Prim.Native.Nat.{ℕ, zero, suc, _<_}
 use native.Mathlib.Omega.{arith}
 use mathlib.Core.Path.{_≡_, refl, ap, sym, _∙_}
 use mathlib.Core.Bool.{true, false}
-use mathlib.Core.List.{List, [], _∷_}
+use mathlib.Core.List.{List, [], _∷_, map}
 use lib.ListN.{length, getD}
 use lib.Ieee.{Float, nan, inf, neg, sub, binary32, toBits, ofBits}
 use Rattle.model.specs.declared.Pose.{Pose}
@@ -12,14 +12,14 @@ use Rattle.model.specs.declared.Player.{Player}
 use Rattle.model.specs.declared.FrameKind.{FrameKind}
 use Rattle.model.specs.declared.FrameKind.the-variants.{Ordinary, Page}
 use Rattle.model.specs.Numbers.{_+₃₂_, _*₃₂_, 0f, 1f, half}
-use Rattle.model.specs.Rotations.{quaternion, row, identityMatrix, product, quaternionToMatrix}
+use Rattle.model.specs.Rotations.{quaternion, row, identityMatrix, product, floats, quaternionToMatrix}
 use Rattle.model.specs.Pose.{vector, toMatrix}
 use Rattle.model.specs.Answers.{accepted}
 use Rattle.model.specs.Plan.{root, jointCount, parent, isRoot}
 use Rattle.model.specs.Check.{check}
 use Rattle.model.specs.Controller.{nowAt, elapsed, jointPose}
 use Rattle.model.specs.Skeleton.{upperTransposed, ownMatrix, parentMatrix, jointMatrix, jointMatrices}
-use Rattle.model.specs.Run.{frameStepped, frameMatrices}
+use Rattle.model.specs.Run.{frameStepped, frameMatrices, Frame, chosenFloats}
 use Rattle.model.specs.Bench.{withParents}
 use Rattle.model.specs.Laws.Opened.{all-opened}
 use Rattle.model.specs.Laws.Table.{table-at, table-same}
@@ -54,6 +54,11 @@ module _ (plan : List ℕ) (numbers : List Float) (p : Player) (ext : Float) (ki
       let same : getD (jointMatrices kind plan poseShown j) (parent plan j) identityMatrix ≡ matrixShown (parent plan j) =
       table-at table j identityMatrix (parent plan j) earlier ∙ sym (table-at table (jointCount plan) identityMatrix (parent plan j) (omega arith)) in
       rw (e, same) at (entry-of j h)
+
+  -- 'their 16 floats are compared like a frame's': what the run by definition shows of the chosen joints
+  pub chosen-shown : (chosen : List ℕ) (outputLength : ℕ) → chosenFloats plan numbers chosen p (Frame kind ext outputLength) ≡ map (λ j. floats (matrixShown j)) chosen
+  unfolding chosenFloats
+  chosen-shown chosen outputLength = refl
 
 -- 'ordinary frames stay the Rust's'
 ordinary-own : (m : Matrix4) → ownMatrix Ordinary m ≡ m

@@ -67,10 +67,14 @@ flat-length [] n e = omega arith
 flat-length (m ∷ ms) zero e = absurd (omega arith)
 flat-length (m ∷ ms) (suc n) e = omega (arith, length-append (floats m) (flat ms), flat-length ms n (omega arith))
 
+flat-append : (ms ns : List Matrix4) → flat (ms ++ ns) ≡ flat ms ++ flat ns
+unfolding flat
+flat-append [] ns = refl
+flat-append (m ∷ ms) ns = rw (flat-append ms ns, append-assoc (floats m) (flat ms) (flat ns))
+
 flat-more : (ms : List Matrix4) (m : Matrix4) (rest : List Float) → flat (ms ++ (m ∷ [])) ++ rest ≡ flat ms ++ (floats m ++ rest)
 unfolding flat
-flat-more [] m rest = ap (λ (l : List Float). l ++ rest) (append-nil (floats m))
-flat-more (x ∷ ms) m rest = rw (append-assoc (floats x) (flat (ms ++ (m ∷ []))) rest, flat-more ms m rest, append-assoc (floats x) (flat ms) (floats m ++ rest))
+flat-more ms m rest = rw (flat-append ms (m ∷ []), append-nil (floats m), append-assoc (flat ms) (floats m) rest)
 
 -- the matrix stored behind n others
 stored-next : (ms : List Matrix4) (m : Matrix4) (back : List Float) (n : ℕ) → length ms ≡ n → stored (flat ms ++ back) (outputAt n) (floats m) ≡ flat (ms ++ (m ∷ [])) ++ drop 16 back
@@ -136,11 +140,6 @@ root-written kind plan poseOf old =
     rw (cond-same (isRoot plan 0) identityMatrix) (stored-next [] (product identityMatrix (ownMatrix kind (toMatrix (poseOf 0)))) old 0 refl)
 
 -- ---- own matrices. `OwnMatrices` of the first i lanes is the loop's invariant
-
-flat-append : (ms ns : List Matrix4) → flat (ms ++ ns) ≡ flat ms ++ flat ns
-unfolding flat
-flat-append [] ns = refl
-flat-append (m ∷ ms) ns = rw (flat-append ms ns, append-assoc (floats m) (flat ms) (flat ns))
 
 module _ (kind : FrameKind) (poseOf : ℕ → Pose) where
   own-length : (j n : ℕ) → length (ownMatrices kind poseOf j n) ≡ n
