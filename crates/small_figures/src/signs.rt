@@ -159,6 +159,7 @@ pub fn page() {
         0.5,
         0.5,
     ];
+    let joints = 2;
     let mut output = [0.0f32; 2 * MATRIX_FLOATS];
     show::text(
         b"# page: a hand on a turned arm, as a frame and as a page frame; a refused one writes nothing\n",
@@ -166,15 +167,15 @@ pub fn page() {
     let begun = start(&plan, &numbers);
     let player = begun.player;
     let shown = frame(&plan, &numbers, player, 0.0, &mut output);
-    show::joints(2, &output);
+    show::joints(joints, &output);
     let paged = page_frame(&plan, &numbers, player, 0.0, &mut output);
     let answer = paged.answer;
     show::answer(b"page\n", answer);
-    show::joints(2, &output);
+    show::joints(joints, &output);
     let refused = page_frame(&plan[..14], &numbers, player, 0.0, &mut output);
     let refusal = refused.answer;
     show::answer(b"page\n", refusal);
-    show::joints(2, &output);
+    show::joints(joints, &output);
 }
 
 // Three samples at two a second, x being 1, 2 and 4, at position 2.5.
