@@ -9,6 +9,18 @@ const ACCEPTED: RawAnswer = RawAnswer {
     place: 0,
 };
 
+/// A frame or a page frame.
+type FrameCall = unsafe extern "C" fn(
+    *const u16,
+    usize,
+    *const f32,
+    usize,
+    *mut RawPlayer,
+    f64,
+    *mut f32,
+    usize,
+) -> RawAnswer;
+
 /// A figure with its player and output.
 pub struct Archive {
     pub plan: Vec<u16>,
@@ -60,36 +72,25 @@ impl Archive {
     }
 
     pub fn play(&mut self, delta: f64, ext: f64) {
-        // SAFETY: a player that is ours.
-        unsafe { sys::gentianlathe_update(&mut self.player, delta) }
-        let answer = self.frame(self.plan.len(), ext, self.output.len());
-        assert_eq!(answer, ACCEPTED);
+        self.step(sys::gentianlathe_frame, delta, ext);
     }
 
     /// The same by a page frame.
     pub fn play_page(&mut self, delta: f64, ext: f64) {
+        self.step(sys::gentianlathe_page_frame, delta, ext);
+    }
+
+    #[inline(always)]
+    fn step(&mut self, call: FrameCall, delta: f64, ext: f64) {
         // SAFETY: a player that is ours.
         unsafe { sys::gentianlathe_update(&mut self.player, delta) }
-        let (plan, numbers, output) = (&self.plan, &self.numbers, &mut self.output);
-        // SAFETY: three slices and a player, all apart.
-        let answer = unsafe {
-            sys::gentianlathe_page_frame(
-                plan.as_ptr(),
-                plan.len(),
-                numbers.as_ptr(),
-                numbers.len(),
-                &mut self.player,
-                ext,
-                output.as_mut_ptr(),
-                output.len(),
-            )
-        };
+        let answer = self.frame(call, self.plan.len(), ext, self.output.len());
         assert_eq!(answer, ACCEPTED);
     }
 
     /// A frame that is refused for its output, after the whole check of the figure.
     pub fn check(&mut self) {
-        let answer = self.frame(self.plan.len(), 0.0, 0);
+        let answer = self.frame(sys::gentianlathe_frame, self.plan.len(), 0.0, 0);
         assert_eq!(
             answer,
             RawAnswer {
@@ -101,7 +102,7 @@ impl Archive {
 
     /// A frame that is refused at its plan's first word: what a call costs by itself.
     pub fn call(&mut self) {
-        let answer = self.frame(0, 0.0, 0);
+        let answer = self.frame(sys::gentianlathe_frame, 0, 0.0, 0);
         assert_eq!(
             answer,
             RawAnswer {
@@ -112,12 +113,13 @@ impl Archive {
     }
 
     /// A frame with so many words of the plan, and so much of the output.
-    fn frame(&mut self, words: usize, ext: f64, length: usize) -> RawAnswer {
+    #[inline(always)]
+    fn frame(&mut self, call: FrameCall, words: usize, ext: f64, length: usize) -> RawAnswer {
         let (plan, output) = (&self.plan[..words], &mut self.output[..length]);
         let numbers = &self.numbers;
         // SAFETY: three slices and a player, all apart.
         unsafe {
-            sys::gentianlathe_frame(
+            call(
                 plan.as_ptr(),
                 plan.len(),
                 numbers.as_ptr(),
