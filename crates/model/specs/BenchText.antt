@@ -7,7 +7,7 @@ use mathlib.Core.Path.{_≡_, refl}
 use mathlib.Core.List.{List, [] as []ᴸ, _∷_ as _∷ᴸ_, _++_}
 use Rattle.model.specs.declared.LineKind.the-variants.{Figure, Joint, Clip, State, Node, Go, Pose}
 use Rattle.model.specs.Text.{bad, digit, digitCount, numeral, isField, fieldIn, name, forms, withField, fieldThen, fieldsIn, begins, lineIn, wordsIn, bitsIn, prefixed, andThen, times, fromLine, readLine, fromState, readState, readEnd, readFigure}
-use Rattle.model.specs.Program.{glyph, digits, places, decimalText, bitsText, decimalFields, bitsFields, refusedLine, jointLine, joined, played, printedFrom, printed}
+use Rattle.model.specs.Program.{glyph, digits, places, decimalText, bitsText, decimalFields, bitsFields, refusedLine, jointLine, joined, played, printedFrom, printedBy, printed}
 use Rattle.model.specs.Laws.Opened.{check-opened, all-opened}
 
 -- of ASCII text, where a character's code is its byte
@@ -44,7 +44,7 @@ exampleOutput =
     bytes "joint,0,3f800000,00000000,00000000,3f800000,00000000,3f800000,00000000,40000000,00000000,00000000,3f800000,40400000,00000000,00000000,00000000,3f800000\n"
 
 pub printed-example : printed exampleText ≡ exampleOutput
-unfolding all-opened reading-opened glyph digits places decimalText bitsText decimalFields bitsFields jointLine joined played printedFrom printed bytes exampleText exampleOutput
+unfolding all-opened reading-opened glyph digits places decimalText bitsText decimalFields bitsFields jointLine joined played printedFrom printedBy printed bytes exampleText exampleOutput
 printed-example = refl
 
 -- Card 11, in refusal 11: after 400 joints the next line is asked for, which is missing here; 401 are refused at their own. That a whole text of 400 is read

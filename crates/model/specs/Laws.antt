@@ -2,6 +2,7 @@
 pub mod Opened
 pub mod Table
 pub mod Totals
+pub mod Marks
 pub mod Answers
 pub mod Tests
 pub mod Roots

@@ -11,6 +11,7 @@ pub mod Tree
 pub mod Controller
 pub mod Skeleton
 pub mod Run
+pub mod Uses
 pub mod Unseen
 pub mod Text
 pub mod Program
@@ -28,4 +29,5 @@ pub mod Pauses
 pub mod Joints
 pub mod Pages
 pub mod ExactlyOne
+pub mod Chains
 pub mod Unused

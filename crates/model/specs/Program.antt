@@ -72,9 +72,14 @@ played plan numbers accepted =
     joined (jointCount plan) (λ j. jointLine j (floats (getD matrices j identityMatrix)))
 played plan numbers (refused number place rest) = refusedLine number place
 
-unfoldable pub printedFrom : Reading → List ℕ
-printedFrom (bad n) = refusedLine 11 n
-printedFrom (got ws bs rest n) = played ws (floatsOf bs) (startVerdict ws (floatsOf bs))
+-- of a figure: what it plays, or why it does not start
+abbrev pub figurePrinted : List ℕ → List Float → List ℕ
+figurePrinted plan numbers = played plan numbers (startVerdict plan numbers)
+
+-- of a text's reading: 11, else what the figure that it gives shows
+unfoldable pub printedFrom : (List ℕ → List Float → List ℕ) → Reading → List ℕ
+printedFrom shows (bad n) = refusedLine 11 n
+printedFrom shows (got ws bs rest n) = shows ws (floatsOf bs)
 
 -- 'text of at most 65,536 bytes'
 abbrev pub maxText : ℕ
@@ -87,9 +92,13 @@ numberBytes = 9
 abbrev pub maxNumbers : ℕ
 maxNumbers = maxText / numberBytes
 
+-- of a text, by a program that shows figures: 13, then the reader's, then the figure's own
+unfoldable pub printedBy : (List ℕ → List Float → List ℕ) → List ℕ → List ℕ
+printedBy shows text = cond (ltb maxText (length text)) (refusedLine 13 maxText) (printedFrom shows (readFigure text))
+
 -- the whole program: 13, then the reader's, then the start's
 unfoldable pub printed : List ℕ → List ℕ
-printed text = cond (ltb maxText (length text)) (refusedLine 13 maxText) (printedFrom (readFigure text))
+printed text = printedBy figurePrinted text
 
 -- ---- a figure as text. Numbers are given by their bits
 

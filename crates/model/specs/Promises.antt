@@ -2,6 +2,7 @@
 -- The calls' contracts cite these records, and so do the traces of demand 3.
 use Prim.Native.Nat.{ℕ}
 use mathlib.Core.Path.{_≡_}
+use mathlib.Core.Bool.{false}
 use mathlib.Core.List.{List}
 use lib.ListN.{length}
 use lib.Ieee.{Float}
@@ -9,11 +10,14 @@ use Rattle.model.specs.declared.Player.{Player}
 use Rattle.model.specs.declared.Outcome.{Outcome}
 use Rattle.model.specs.declared.TextAnswer.{TextAnswer}
 use Rattle.model.specs.declared.FrameKind.{FrameKind}
+use Rattle.model.specs.declared.Uses.{Uses}
 use Rattle.model.specs.Answers.{values, unlessRefused}
+use Rattle.model.specs.Plan.{maxClips, maxParameters, maxStates}
 use Rattle.model.specs.Controller.{withSpeed, updated, parameterSet, setVerdict, frameVerdict}
 use Rattle.model.specs.Skeleton.{written}
 use Rattle.model.specs.Text.{readFigure, textValues, textVerdict, whenAccepted, overwritten, readWords, readFloats}
 use Rattle.model.specs.Run.{startVerdict, startPlayer, framePlayer, frameMatrices}
+use Rattle.model.specs.Uses.{marks, stateMarks, parameterMarks, clipMarks}
 
 pub record Started (plan : List ℕ) (numbers : List Float) (r : Outcome) : Type 0 where
   pub answer : values (r .answer) ≡ startVerdict plan numbers
@@ -34,6 +38,13 @@ pub record Framed (kind : FrameKind) (plan : List ℕ) (numbers : List Float) (p
   pub answer : values (r .answer) ≡ frameVerdict plan numbers p (length old)
   pub player : r .player ≡ unlessRefused (frameVerdict plan numbers p (length old)) (framePlayer plan numbers p ext) p
   pub output : new ≡ unlessRefused (frameVerdict plan numbers p (length old)) (written plan (frameMatrices plan numbers p ext kind) old) old
+
+-- marks, all false where the figure is refused
+pub record UsesFound (plan : List ℕ) (numbers : List Float) (r : Uses) : Type 0 where
+  pub answer : values (r .answer) ≡ startVerdict plan numbers
+  pub states : r .states ≡ unlessRefused (startVerdict plan numbers) (stateMarks plan) (marks maxStates (λ k. false))
+  pub parameters : r .parameters ≡ unlessRefused (startVerdict plan numbers) (parameterMarks plan) (marks maxParameters (λ k. false))
+  pub clips : r .clips ≡ unlessRefused (startVerdict plan numbers) (clipMarks plan) (marks maxClips (λ k. false))
 
 -- Both slices, given as what they hold when the call begins and when it returns
 pub record TextRead (text planOld planNew : List ℕ) (numbersOld numbersNew : List Float) (r : TextAnswer) : Type 0 where

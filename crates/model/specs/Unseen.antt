@@ -13,7 +13,7 @@ pub data Reachable (plan : List ℕ) : ℕ → Type 0 where
 
 -- 'plays': a clip node of a reachable state names the clip
 pub data Played (plan : List ℕ) : ℕ → Type 0 where
-  plays : {s : ℕ} → Reachable plan s → (i : ℕ) → i < nodeCount plan s → isClip plan s i ≡ true → Played plan (inputA plan s i)
+  byClip : {s : ℕ} → Reachable plan s → (i : ℕ) → i < nodeCount plan s → isClip plan s i ≡ true → Played plan (inputA plan s i)
 
 -- 'reads': the parameter of a blending node, or of a condition, of a reachable state
 pub data Read (plan : List ℕ) : ℕ → Type 0 where

@@ -9,7 +9,7 @@ use mathlib.Core.List.{List, [], _∷_}
 use Rattle.model.specs.Answers.{accepted}
 use Rattle.model.specs.Plan.{Rate, Value, Duration, PoseFloat}
 use Rattle.model.specs.Check.{check}
-use Rattle.model.specs.Unseen.{Reachable, initial, target, Played, plays, Read, byNode, byCondition, Unseen}
+use Rattle.model.specs.Unseen.{Reachable, initial, target, Played, byClip, Read, byNode, byCondition, Unseen}
 use Rattle.model.specs.Laws.Opened.{check-opened}
 
 -- two roots, two clips of one sample, the first of which stops, one parameter, two states. State 0 plays clip 0 and stays; state 1 plays clip 1, and leaves by parameter 0
@@ -35,7 +35,7 @@ state-1-unreachable r = absurd (omega (arith, only-state-0 1 r))
 only-clip-0 : (c : ℕ) → Played twoStates c → c ≡ 0
 unfolding check-opened twoStates
 -- node 0 is state 0's only one
-only-clip-0 _ (plays {s = s} r i h e) =
+only-clip-0 _ (byClip {s = s} r i h e) =
     let z : s ≡ 0 = only-state-0 s r in
     let y : i ≡ 0 = omega (arith, (rw z at h)) in
     rw (z, y) refl

@@ -1,6 +1,8 @@
 // The types of the interface. What they mean is defined in specs/, one file for each section of document 01 and each card of document 02.
+use crate::limits::MAX_CLIPS;
 use crate::limits::MAX_INSTANCES;
 use crate::limits::MAX_PARAMETERS;
+use crate::limits::MAX_STATES;
 ghost use mathlib.Core.Path.{_≡_};
 ghost use Rattle.model.specs.Answers.{values, refused};
 
@@ -113,6 +115,15 @@ pub fn refused(number: usize, place: usize) -> Answer
 pub struct Outcome {
     pub answer: Answer,
     pub player: Player,
+}
+
+// What a figure can use (document 02, Card 3): a mark for each state that is reachable, each parameter that such a state reads and each clip that it plays.
+// Marks behind the figure's own states, parameters and clips are false, and all are where the figure is refused.
+pub struct Uses {
+    pub answer: Answer,
+    pub states: [bool; MAX_STATES],
+    pub parameters: [bool; MAX_PARAMETERS],
+    pub clips: [bool; MAX_CLIPS],
 }
 
 // ---- text

@@ -11,7 +11,7 @@ use Rattle.model.specs.Answers.{accepted}
 use Rattle.model.specs.Plan.{clipCount, stateCount, transitionCount, sampleCount, isStopping, NumberName, Rate, Value, Duration, PoseFloat, numberAt, number, samplePose}
 use Rattle.model.specs.Check.{check}
 use Rattle.model.specs.Clips.{firstIndex, secondIndex, sampledPosition, duration, poseAt, clipPose}
-use Rattle.model.specs.Unseen.{Reachable, Played, plays, HasNumber, Unseen}
+use Rattle.model.specs.Unseen.{Reachable, Played, byClip, HasNumber, Unseen}
 use Rattle.model.specs.Laws.Passed.{numbers-fit, state-passed, reachable-below}
 use Rattle.model.specs.Laws.State.{clip-below}
 use Rattle.model.specs.Laws.Clips.{first-below, second-below, pose-of-empty, pose-of-samples}
@@ -39,7 +39,7 @@ module _ (plan chosen : List ℕ) (a b : List Float) (ok : check plan (length a)
   -- ---- clips that are played, at chosen joints
 
   played-below : {c : ℕ} → Played plan c → c < clipCount plan
-  played-below (plays r i h e) = clip-below plan _ (state-passed plan (length a) ok _ (below r)) i h e
+  played-below (byClip r i h e) = clip-below plan _ (state-passed plan (length a) ok _ (below r)) i h e
 
   rate-same : {c : ℕ} → Played plan c → number plan a (Rate c) ≡ number plan b (Rate c)
   rate-same {c} p = seen-same (Rate c) (played-below p) (λ u. u p)

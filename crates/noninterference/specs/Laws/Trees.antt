@@ -13,7 +13,7 @@ use Rattle.model.specs.Plan.{stateCount, nodeCount, isClip, inputA, inputB, cli
 use Rattle.model.specs.Check.{check}
 use Rattle.model.specs.Clips.{localTime, setPlaybackRate, instanceAt, clipPose}
 use Rattle.model.specs.Tree.{rateSet, isTouched, nodeLength, nodeTarget, inputSynchronized, synchronizeNode, synchronizeNodes, synchronize, nodePose, nodePoses, statePose}
-use Rattle.model.specs.Unseen.{Reachable, plays, Read, byNode}
+use Rattle.model.specs.Unseen.{Reachable, byClip, Read, byNode}
 use Rattle.model.specs.Laws.Passed.{state-passed}
 use Rattle.model.specs.Laws.State.{a-earlier, b-earlier}
 use Rattle.model.specs.Laws.Touched.{touched-blends, touched-a, touched-b}
@@ -68,7 +68,7 @@ module _ (plan chosen : List ℕ) (a b : List Float) (ok : check plan (length a)
 
     length-same : (i : ℕ) → Reachable plan s → i < nodeCount plan s → isClip plan s i ≡ true → nodeLength plan a s i ≡ nodeLength plan b s i
     unfolding nodeLength
-    length-same i r h e = duration-same plan chosen a b ok closed alike (plays r i h e)
+    length-same i r h e = duration-same plan chosen a b ok closed alike (byClip r i h e)
 
     input-same : (i : ℕ) → i < nodeCount plan s → isClip plan s i ≡ true → (x y : Float) → (Reachable plan s → x ≡ y) → {is ks : List Float} → SameInstances plan is ks
         → SameInstances plan (inputSynchronized plan a l time s i x is) (inputSynchronized plan b m time s i y ks)
@@ -111,7 +111,7 @@ module _ (plan chosen : List ℕ) (a b : List Float) (ok : check plan (length a)
     node-same earlier i h =
         cond-same (isClip plan s i)
         (λ e. ap (λ (c : ClipInstance). clipPose plan a (inputA plan s i) j (localTime c time)) (instance-same plan same (clipNode plan s i) (instanceOf r i h e _ refl))
-        ∙ clip-same plan chosen a b ok closed alike (plays r i h e) chose _)
+        ∙ clip-same plan chosen a b ok closed alike (byClip r i h e) chose _)
         (λ e. rw (ps .at _ (byNode r i h e)))
 
     pub pose-same : statePose plan a l time s is j ≡ statePose plan b m time s ks j
