@@ -13,6 +13,7 @@ pub mod Trees
 pub mod Clips
 pub mod Touched
 pub mod Passed
+pub mod Reached
 pub mod Steps
 pub mod Numbers
 pub mod ClipNodes

@@ -17,6 +17,8 @@ use Rattle.model.specs.Clips.{clipPose}
 use Rattle.model.specs.Tree.{playsSamples, isTouched, synchronizeNode}
 use Rattle.model.specs.Run.{startPlayer, Frame, chosenFloats}
 use Rattle.model.specs.Unseen.{Played, Unseen}
+use Rattle.model.specs.Laws.Marks.{unlike}
+use Rattle.model.specs.Laws.Reached.{played-marked}
 use Rattle.model.specs.Laws.Opened.{check-opened, floats-opened, all-opened}
 use Rattle.model.specs.Laws.Tests.{and-true, and-false}
 use Rattle.model.specs.Laws.Clips.{empty, not-empty, pose-of-empty}
@@ -100,5 +102,5 @@ pause-shown rate other ext = (refl, refl)
 
 -- ---- the list of what is unseen stays: no clip that is played has an unseen rate, with samples or without
 
-pub played-rate-seen : (plan chosen : List ℕ) (c : ℕ) → Played plan c → ¬ Unseen plan chosen (Rate c)
-played-rate-seen plan chosen c p u = u p
+pub played-rate-seen : (plan chosen : List ℕ) (c n : ℕ) → check plan n ≡ accepted → Played plan c → ¬ Unseen plan chosen (Rate c)
+played-rate-seen plan chosen c n ok p u = unlike (played-marked plan n ok p) u

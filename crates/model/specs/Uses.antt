@@ -1,7 +1,8 @@
 -- Document 02, Card 3, "What can ever matter": the states that are reachable, the parameters that such a state reads and the clips that it plays, as marks
 -- that compute. Definitions only.
 use Prim.Native.Nat.{ℕ, zero, suc, _-_, _≤_, _<_}
-use mathlib.Core.Bool.{Bool, false, not, _&&_, _||_}
+use mathlib.Core.Path.{_≡_}
+use mathlib.Core.Bool.{Bool, true, false, not, _&&_, _||_}
 use mathlib.Core.List.{List}
 use lib.ListN.{getD}
 use lib.Dec.{eqb}
@@ -28,11 +29,16 @@ anyBelow (suc n) f = anyBelow n f || f n
 unfoldable pub leadsTo : List ℕ → ℕ → ℕ → Bool
 leadsTo plan u s = anyBelow (transitionCount plan u) (λ t. eqb (targetState plan u t) s)
 
--- a lerp or additive node of state s, or one of its conditions, reads parameter n
+-- a lerp or additive node of state s reads parameter n
+unfoldable pub blendsBy : List ℕ → ℕ → ℕ → Bool
+blendsBy plan s n = anyBelow (nodeCount plan s) (λ i. not (isClip plan s i) && eqb (nodeParameter plan s i) n)
+
+-- a condition of state s does
+unfoldable pub asksFor : List ℕ → ℕ → ℕ → Bool
+asksFor plan s n = anyBelow (transitionCount plan s) (λ t. eqb (conditionParameter plan s t) n)
+
 unfoldable pub reads : List ℕ → ℕ → ℕ → Bool
-reads plan s n =
-    anyBelow (nodeCount plan s) (λ i. not (isClip plan s i) && eqb (nodeParameter plan s i) n)
-    || anyBelow (transitionCount plan s) (λ t. eqb (conditionParameter plan s t) n)
+reads plan s n = blendsBy plan s n || asksFor plan s n
 
 -- a clip node of state s names clip c, whether that has samples or not
 unfoldable pub plays : List ℕ → ℕ → ℕ → Bool
@@ -75,3 +81,9 @@ pub record ChainWithin (plan : List ℕ) (most s : ℕ) : Type 0 where
   pub transitions : ℕ
   pub few : transitions ≤ most
   pub chain : Chain plan transitions s
+
+-- so a state that this test holds of can be reached
+pub record UsedWithin (plan : List ℕ) (most : ℕ) (does : ℕ → ℕ → Bool) (k : ℕ) : Type 0 where
+  pub state : ℕ
+  pub within : ChainWithin plan most state
+  pub uses : does state k ≡ true

@@ -5,7 +5,7 @@ use native.Mathlib.Omega.{arith}
 use native.Mathlib.Decide.{ℕ-discrete}
 use mathlib.Core.Path.{_≡_, refl, sym, ap, ap₂, _∙_, subst}
 use mathlib.Core.Logic.{inl}
-use mathlib.Core.Bool.{true}
+use mathlib.Core.Bool.{Bool, true, false}
 use mathlib.Core.List.{List, [], _∷_, List·Memᴰ, List·Memᴰ·head}
 use lib.ListN.{length, getD, set, replicate, length-set, length-replicate}
 use lib.Dec.{T}
@@ -20,10 +20,11 @@ use Rattle.model.specs.Check.{check}
 use Rattle.model.specs.Controller.{withSpeed, updated, parameterSet, setVerdict, frameVerdict}
 use Rattle.model.specs.Skeleton.{written}
 use Rattle.model.specs.Run.{startVerdict, startPlayer, framePlayer, frameMatrices, Call, Update, Speed, Set, Frame}
-use Rattle.model.specs.Unseen.{Read}
+use Rattle.model.specs.Uses.{isMarked, parameterMarks}
 use Rattle.model.specs.Bench.{withParents, fourHundred}
-use Rattle.model.specs.Unused.{twoStates, unread, unused-unseen}
+use Rattle.model.specs.Unused.{twoStates, first-only, unused-unseen}
 use Rattle.model.specs.Laws.Opened.{check-opened}
+use Rattle.model.specs.Laws.Marks.{unlike}
 use Rattle.noninterference.specs.Alike.{Closed, UnseenAt, AlikeNumbers, AlikeCall, sets}
 use Rattle.noninterference.specs.Laws.Answers.{Answerable, require-answerable, check-answerable, frame-answerable}
 use Rattle.noninterference.specs.Trace.{Event, Trace, end, update, setSpeed, setParameter, frame, Session, calls}
@@ -84,8 +85,8 @@ unseen-alike plan chosen a k x u = record { lengths = sym (length-set a k x); pl
     other i seen (no e) = sym (getD-set-other a k i x nan e)
 
 -- any value set on a parameter that is not read
-pub unread-alike : (plan : List ℕ) (n : ℕ) (v w : Float) → ¬ Read plan n → AlikeCall plan (Set n v) (Set n w)
-unread-alike plan n v w unread = sets n v w (λ read. absurd (read unread))
+pub unread-alike : (plan : List ℕ) (n : ℕ) (v w : Float) → isMarked (parameterMarks plan) n ≡ false → AlikeCall plan (Set n v) (Set n w)
+unread-alike plan n v w unread = sets n v w (λ read. absurd (unlike read unread))
 
 -- ---- and there are unseen places
 
@@ -142,4 +143,4 @@ unused-places chosen =
 
 -- and the parameter that it declares may be set to anything
 pub parameter-0-free : (v w : Float) → AlikeCall twoStates (Set 0 v) (Set 0 w)
-parameter-0-free v w = unread-alike twoStates 0 v w (unread 0)
+parameter-0-free v w = unread-alike twoStates 0 v w (ap (λ (ms : List Bool). isMarked ms 0) (first-only .parameters))

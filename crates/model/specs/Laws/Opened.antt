@@ -7,6 +7,7 @@ use Rattle.model.specs.Answers.{values, _then_, each, require, unlessRef
 use Rattle.model.specs.Plan.{word, jointCount, clipCount, parameterCount, stateCount, initialState, parent, isRootWord, isRoot, sampleCountAt, sampleCount, isEmpty, endingAt, ending, isStopping, afterNodes, afterTransitions, stateAt, nodeCount, kindAt, kind, isClip, isLerp, inputA, inputB, nodeParameter, transitionCountAt, transitionCount, conditionParameterAt, conditionParameter, operator, targetState, planEnd, total, clipNodesAmong, clipNodesBefore, clipNode, transitionsBefore, samplesBefore, posesAt, numberAt, numbersLength, number, samplePose}
 use Rattle.model.specs.Check.{wordIs, within, checkHeader, checkParent, checkClip, used, checkNode, checkTransition, checkState, check}
 use Rattle.model.specs.Table.{tableTo}
+use Rattle.model.specs.Uses.{anyBelow, leadsTo, blendsBy, asksFor, reads, plays, reachedIn, stateMarks, byMarkedState, parameterMarks, clipMarks}
 use Rattle.model.specs.Clips.{firstIndex, secondIndex, factor, sampledPosition, blankInstances, duration, poseAt, clipPose}
 use Rattle.model.specs.Tree.{additive, targetLength, synchronizedRate, playsSamples, isTouched, nodeLength, nodeTarget, inputSynchronized, synchronizeNode, synchronizeNodes, synchronize, nodePose, nodePoses, statePose}
 use Rattle.model.specs.Controller.{blank, synchronizeStates, fresh, isTargetBelow, frameVerdict, nowAt, isEnded, holds, firstPassing, winner, startedBy, stepFrom, elapsed, transitionFactor, currentInstances, targetInstances, instancesIn, currentPose, targetPose, poseIn}
@@ -17,6 +18,11 @@ use Rattle.model.specs.Run.{startVerdict, startPlayer, framePlayer, fram
 unfoldable pub check-opened : Unit {0}
 unfolding _then_ each require word jointCount clipCount parameterCount stateCount initialState parent isRootWord isRoot sampleCountAt sampleCount isEmpty endingAt ending isStopping afterNodes afterTransitions stateAt nodeCount kindAt kind isClip isLerp inputA inputB nodeParameter transitionCountAt transitionCount conditionParameterAt conditionParameter operator targetState planEnd total clipNodesAmong clipNodesBefore clipNode transitionsBefore samplesBefore posesAt numberAt numbersLength wordIs within checkHeader checkParent checkClip used checkNode checkTransition checkState check
 check-opened = tt
+
+-- the marks of a plan
+unfoldable pub uses-opened : Unit {0}
+unfolding check-opened tableTo anyBelow leadsTo blendsBy asksFor reads plays reachedIn stateMarks byMarkedState parameterMarks clipMarks
+uses-opened = tt
 
 -- the float definitions
 unfoldable pub floats-opened : Unit {0}

@@ -11,9 +11,10 @@ use Rattle.model.specs.Answers.{accepted}
 use Rattle.model.specs.Plan.{clipCount, stateCount, transitionCount, sampleCount, isStopping, NumberName, Rate, Value, Duration, PoseFloat, numberAt, number, samplePose}
 use Rattle.model.specs.Check.{check}
 use Rattle.model.specs.Clips.{firstIndex, secondIndex, sampledPosition, duration, poseAt, clipPose}
-use Rattle.model.specs.Unseen.{Reachable, Played, byClip, HasNumber, Unseen}
-use Rattle.model.specs.Laws.Passed.{numbers-fit, state-passed, reachable-below}
-use Rattle.model.specs.Laws.State.{clip-below}
+use Rattle.model.specs.Unseen.{Reachable, Played, HasNumber, Unseen}
+use Rattle.model.specs.Laws.Passed.{numbers-fit, reachable-below}
+use Rattle.model.specs.Laws.Marks.{unlike}
+use Rattle.model.specs.Laws.Reached.{reachable-marked, played-below, played-marked}
 use Rattle.model.specs.Laws.Clips.{first-below, second-below, pose-of-empty, pose-of-samples}
 use Rattle.model.specs.Laws.Numbers.{number-inside, one-name}
 use Rattle.noninterference.specs.Alike.{Closed, AlikeNumbers}
@@ -31,18 +32,18 @@ module _ (plan chosen : List ℕ) (a b : List Float) (ok : check plan (length a)
   below r = reachable-below plan (length a) ok r
 
   pub value-same : {s : ℕ} → Reachable plan s → (t : ℕ) → t < transitionCount plan s → number plan a (Value s t) ≡ number plan b (Value s t)
-  value-same {s} r t h = seen-same (Value s t) (below r, h) (λ u. u r)
+  value-same {s} r t h = seen-same (Value s t) (below r, h) (unlike (reachable-marked plan (length a) ok r))
 
   pub transition-duration-same : {s : ℕ} → Reachable plan s → (t : ℕ) → t < transitionCount plan s → number plan a (Duration s t) ≡ number plan b (Duration s t)
-  transition-duration-same {s} r t h = seen-same (Duration s t) (below r, h) (λ u. u r)
+  transition-duration-same {s} r t h = seen-same (Duration s t) (below r, h) (unlike (reachable-marked plan (length a) ok r))
 
   -- ---- clips that are played, at chosen joints
 
-  played-below : {c : ℕ} → Played plan c → c < clipCount plan
-  played-below (byClip r i h e) = clip-below plan _ (state-passed plan (length a) ok _ (below r)) i h e
+  below-clips : {c : ℕ} → Played plan c → c < clipCount plan
+  below-clips p = played-below plan (length a) ok p
 
   rate-same : {c : ℕ} → Played plan c → number plan a (Rate c) ≡ number plan b (Rate c)
-  rate-same {c} p = seen-same (Rate c) (played-below p) (λ u. u p)
+  rate-same {c} p = seen-same (Rate c) (below-clips p) (unlike (played-marked plan (length a) ok p))
 
   pub duration-same : {c : ℕ} → Played plan c → duration plan a c ≡ duration plan b c
   unfolding duration
@@ -50,11 +51,11 @@ module _ (plan chosen : List ℕ) (a b : List Float) (ok : check plan (length a)
 
   module _ {c j : ℕ} (p : Played plan c) (m : List·Memᴰ j chosen) where
     float-same : (n k : ℕ) → n < sampleCount plan c → k < 8 → number plan a (PoseFloat c n j k) ≡ number plan b (PoseFloat c n j k)
-    float-same n k h hk = seen-same (PoseFloat c n j k) (played-below p, h, closed .are-joints j m, hk) seen
+    float-same n k h hk = seen-same (PoseFloat c n j k) (below-clips p, h, closed .are-joints j m, hk) seen
       where
         seen : ¬ Unseen plan chosen (PoseFloat c n j k)
         seen (inl u) = u m
-        seen (inr u) = u p
+        seen (inr u) = unlike (played-marked plan (length a) ok p) u
 
     sample-same : (n : ℕ) → n < sampleCount plan c → samplePose plan a c n j ≡ samplePose plan b c n j
     unfolding samplePose

@@ -25,6 +25,7 @@ use Rattle.model.specs.Skeleton.{ownMatrix, parentMatrix, jointMatrix, jointMat
 use Rattle.model.specs.Run.{framePlayer, frameMatrices, Call, callVerdict, changed, after, chosenFloats, observation, runFrom}
 use Rattle.model.specs.Unseen.{Reachable, initial, target, Read, byCondition}
 use Rattle.model.specs.Laws.Passed.{parent-earlier, reachable-below}
+use Rattle.model.specs.Laws.Reached.{read-marked}
 use Rattle.model.specs.Laws.Table.{table-at}
 use Rattle.model.specs.Table.{tableTo}
 use Rattle.noninterference.specs.Alike.{Closed, AlikeNumbers, AlikeCall, updates, speeds, sets, frames, AlikeCalls, none, next}
@@ -221,7 +222,7 @@ module _ (plan chosen : List ℕ) (a b : List Float) (ok : check plan (length a)
     changed-equivalent (speeds v) =
         record { clock = h .clock; speed = refl; state = h .state; transition = h .transition; reachable = h .reachable; target = h .target; parameters = h .parameters; instances = h .instances }
     changed-equivalent (sets n v w e) =
-        record { clock = h .clock; speed = h .speed; state = h .state; transition = h .transition; reachable = h .reachable; target = h .target; parameters = same-set (h .parameters) n v w (λ r. e (λ u. u r)); instances = h .instances }
+        record { clock = h .clock; speed = h .speed; state = h .state; transition = h .transition; reachable = h .reachable; target = h .target; parameters = same-set (h .parameters) n v w (λ r. e (read-marked plan (length a) ok r)); instances = h .instances }
     changed-equivalent (frames kind ext len) = frame-equivalent ext
 
     verdict-same : {c d : Call} → AlikeCall plan c d → callVerdict plan a p c ≡ callVerdict plan b q d
