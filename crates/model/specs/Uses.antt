@@ -29,9 +29,12 @@ anyBelow (suc n) f = anyBelow n f || f n
 unfoldable pub leadsTo : List ℕ → ℕ → ℕ → Bool
 leadsTo plan u s = anyBelow (transitionCount plan u) (λ t. eqb (targetState plan u t) s)
 
--- a lerp or additive node of state s reads parameter n
+-- node i of state s is a lerp or additive node, and reads parameter n
+abbrev pub nodeReads : List ℕ → ℕ → ℕ → ℕ → Bool
+nodeReads plan s i n = not (isClip plan s i) && eqb (nodeParameter plan s i) n
+
 unfoldable pub blendsBy : List ℕ → ℕ → ℕ → Bool
-blendsBy plan s n = anyBelow (nodeCount plan s) (λ i. not (isClip plan s i) && eqb (nodeParameter plan s i) n)
+blendsBy plan s n = anyBelow (nodeCount plan s) (λ i. nodeReads plan s i n)
 
 -- a condition of state s does
 unfoldable pub asksFor : List ℕ → ℕ → ℕ → Bool
@@ -40,9 +43,12 @@ asksFor plan s n = anyBelow (transitionCount plan s) (λ t. eqb (conditionParame
 unfoldable pub reads : List ℕ → ℕ → ℕ → Bool
 reads plan s n = blendsBy plan s n || asksFor plan s n
 
--- a clip node of state s names clip c, whether that has samples or not
+-- node i of state s is a clip node, and names clip c, whether that has samples or not
+abbrev pub nodePlays : List ℕ → ℕ → ℕ → ℕ → Bool
+nodePlays plan s i c = isClip plan s i && eqb (inputA plan s i) c
+
 unfoldable pub plays : List ℕ → ℕ → ℕ → Bool
-plays plan s c = anyBelow (nodeCount plan s) (λ i. isClip plan s i && eqb (inputA plan s i) c)
+plays plan s c = anyBelow (nodeCount plan s) (λ i. nodePlays plan s i c)
 
 -- ---- the figure's marks
 

@@ -7,6 +7,7 @@ use mathlib.Core.Path.{_≡_, refl, sym, _∙_, subst}
 use mathlib.Core.Logic.{_⊎_, inl, inr}
 use mathlib.Core.Bool.{Bool, true, false, not, _&&_, _||_}
 use mathlib.Core.List.{List}
+use lib.ListN.{length}
 use lib.Dec.{eqb}
 use borrow.Author.Tests.{eqb-true, eq-eqb}
 use Rattle.model.specs.Answers.{accepted}
@@ -17,7 +18,7 @@ use Rattle.model.specs.Unseen.{Reachable, initial, target, Played, byCli
 use Rattle.model.specs.Laws.Tests.{and-left, and-right, not-true}
 use Rattle.model.specs.Laws.Passed.{initial-below, few-states, few-clips, few-parameters, state-passed, reachable-below}
 use Rattle.model.specs.Laws.State.{clip-below, parameter-below, condition-below}
-use Rattle.model.specs.Laws.Marks.{or-cases, or-first, or-second, unlike, Found, any-found, any-at, mark-at, marked-below, marked-passes, count, one-more, some-counted, all-counted}
+use Rattle.model.specs.Laws.Marks.{or-cases, or-first, or-second, unlike, Found, any-found, any-at, marks-length, mark-at, marked-below, marked-passes, count, one-more, some-counted, all-counted}
 
 and-both : (a b : Bool) → a ≡ true → b ≡ true → a && b ≡ true
 and-both a b e f = rw (e, f) refl
@@ -39,14 +40,26 @@ module _ (plan : List ℕ) where
   unfolding leadsTo
   leads-found u s e = any-found _ _ e
 
-  leads-at : (u t : ℕ) → t < transitionCount plan u → leadsTo plan u (targetState plan u t) ≡ true
+  pub leads-at : (u t : ℕ) → t < transitionCount plan u → leadsTo plan u (targetState plan u t) ≡ true
   unfolding leadsTo
   leads-at u t h = any-at _ _ t h (eq-eqb (targetState plan u t) (targetState plan u t) refl)
+
+  pub leads-reachable : {u s : ℕ} → Reachable plan u → leadsTo plan u s ≡ true → Reachable plan s
+  leads-reachable {u} {s} r e = let x = leads-found u s e in subst (Reachable plan) (eqb-true _ _ (x .passes)) (target r (x .which) (x .below))
 
   reached-below : (n s : ℕ) → isMarked (reachedIn plan n) s ≡ true → s < maxStates
   unfolding reachedIn
   reached-below zero s e = marked-below _ _ s e
   reached-below (suc n) s e = marked-below _ _ s e
+
+  reached-length : (n : ℕ) → length (reachedIn plan n) ≡ maxStates
+  unfolding reachedIn
+  reached-length zero = marks-length _ maxStates
+  reached-length (suc n) = marks-length _ maxStates
+
+  pub state-marks-length : length (stateMarks plan) ≡ maxStates
+  unfolding stateMarks
+  state-marks-length = reached-length (stateCount plan - 1)
 
   first-reached : (s : ℕ) → isMarked (reachedIn plan 0) s ≡ true → initialState plan ≡ s
   unfolding reachedIn
@@ -308,3 +321,9 @@ module _ (plan : List ℕ) (k : ℕ) (ok : check plan k ≡ accepted) where
 
   pub player-marked : (c : ℕ) → UsedWithin plan (stateCount plan - 1) (plays plan) c → isMarked (clipMarks plan) c ≡ true
   player-marked c x = played-marked (plays-found (x .state) c (reached-from (plays plan) c x) (x .uses))
+
+  pub read-by : {s : ℕ} (n : ℕ) → Reachable plan s → reads plan s n ≡ true → isMarked (parameterMarks plan) n ≡ true
+  read-by {s} n r e = read-marked (reads-found s n r e)
+
+  pub played-by : {s : ℕ} (c : ℕ) → Reachable plan s → plays plan s c ≡ true → isMarked (clipMarks plan) c ≡ true
+  played-by {s} c r e = played-marked (plays-found s c r e)

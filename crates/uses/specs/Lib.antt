@@ -1,0 +1,2 @@
+-- What the steps of marking do
+pub mod Marking
