@@ -10,6 +10,8 @@ use host_player::parameter_set;
 use host_player::started;
 use host_player::updated;
 use host_player::with_speed;
+use host_uses::HostUses;
+use host_uses::host_uses;
 use layout::JOINT_COUNT_AT;
 use layout::MAX_PLAN;
 use layout::word;
@@ -25,6 +27,7 @@ ghost use Rattle.model.specs.Plan.{maxPlan, jointCount, outputAt};
 ghost use Rattle.model.specs.Program.{numberBytes};
 ghost use Rattle.host_player.specs.HostPromises.{HostStarted, HostUpdated, HostSpeedSet, HostParameterSet};
 ghost use Rattle.host_player.specs.HostPromises.{HostFramed, HostTextRead};
+ghost use Rattle.host_uses.specs.HostUses.{HostUsesFound};
 ghost use Rattle.capi.specs.PlayerSize.{playerBytes};
 
 // ---- start, update, speed, set
@@ -143,6 +146,15 @@ pub extern "C" fn gentianlathe_page_frame(
         ⌝ }
 {
     frame_in_place(FrameKind::Page, plan, numbers, player, ext, output)
+}
+
+// ---- what a figure can use
+
+#[no_mangle]
+pub extern "C" fn gentianlathe_uses(plan: &[u16], numbers: &[f32]) -> HostUses
+    ensures { λ r. ⌜ HostUsesFound (now (plan .entry)) (now (numbers .entry)) r ⌝ }
+{
+    host_uses(plan, numbers)
 }
 
 // ---- text

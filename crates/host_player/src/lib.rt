@@ -172,7 +172,7 @@ fn pack(player: Player) -> HostPlayer
     }
 }
 
-fn host_answer(answer: Answer) -> HostAnswer
+pub fn host_answer(answer: Answer) -> HostAnswer
     ensures { λ r. ⌜ r ≡ hostAnswer (values answer) ⌝ }
 {
     match answer {

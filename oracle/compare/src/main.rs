@@ -19,6 +19,7 @@ const USAGE: &str =
        compare record-texts EXAMPLES OUTDIR write each example's .expected, the recorded texts and their answers
        compare check-texts EXAMPLES STDIN STDOUT     hold these to what record-texts would write
        compare random-texts BINARY [--cases N] [--seed S]   compare BINARY with the reference on random texts
+       compare uses FIGURE                  what inspect uses must print for this file
        compare replay FIGURE CALLS          what replay must print for these two files
        compare record-lists OUTDIR          write the recorded figures with their call lists, and their answers
        compare check-lists STDIN STDOUT     hold these two files to what record-lists would write
@@ -35,6 +36,10 @@ fn print() -> io::Result<bool> {
 
 fn replay(figure: &Path, calls: &Path) -> io::Result<bool> {
     write_out(&report::report(&fs::read(figure)?, &fs::read(calls)?))
+}
+
+fn uses(figure: &Path) -> io::Result<bool> {
+    write_out(&texts::uses::printed(&fs::read(figure)?))
 }
 
 fn write_out(text: &str) -> io::Result<bool> {
@@ -86,6 +91,7 @@ fn command(arguments: &[String]) -> Result<bool, String> {
             let subject = |cases: &[_]| texts::random::run(Path::new(binary), cases);
             texts::random::compare(&subject, count, seed)
         }
+        ["uses", figure] => uses(Path::new(figure)),
         ["replay", figure, calls] => replay(Path::new(figure), Path::new(calls)),
         ["record-lists", out] => recorded_lists::record(Path::new(out)),
         ["check-lists", stdin, stdout] => {

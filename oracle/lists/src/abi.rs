@@ -1,6 +1,6 @@
 //! The static library's functions, declared here once more from its description.
 
-use crate::evaluator::{Answer, Evaluator, HostPlayer, Shown, TextAnswer};
+use crate::evaluator::{Answer, Evaluator, HostPlayer, HostUses, Shown, TextAnswer};
 
 extern "C" {
     fn gentianlathe_start(
@@ -41,6 +41,12 @@ extern "C" {
         numbers: *mut f32,
         numbers_length: usize,
     ) -> TextAnswer;
+    fn gentianlathe_uses(
+        plan: *const u16,
+        plan_length: usize,
+        numbers: *const f32,
+        numbers_length: usize,
+    ) -> HostUses;
     fn gentianlathe_player_size() -> usize;
     fn gentianlathe_output_length(plan: *const u16, plan_length: usize) -> usize;
     fn gentianlathe_most_words() -> usize;
@@ -107,6 +113,11 @@ impl Evaluator for Library {
                 numbers.len(),
             )
         }
+    }
+
+    fn uses(&self, plan: &[u16], numbers: &[f32]) -> HostUses {
+        let (words, floats) = (plan.len(), numbers.len());
+        unsafe { gentianlathe_uses(plan.as_ptr(), words, numbers.as_ptr(), floats) }
     }
 
     fn player_size(&self) -> usize {

@@ -1,5 +1,6 @@
 //! What is compared: the calls of the static library, and the player as a host holds it.
 
+use compare::model::uses::Uses;
 use compare::player::{Player, Running, INSTANCES, PARAMETERS};
 use compare::texts::figure::Refusal;
 use std::fmt;
@@ -36,6 +37,21 @@ pub struct TextAnswer {
     pub numbers: usize,
 }
 
+/// The most states, and the most clips, that a figure has.
+pub const MOST: usize = 16;
+
+/// Which states are reachable, which parameters are read and which clips played: 1, else 0. Behind the
+/// figure's own there are 0s.
+#[repr(C)]
+#[derive(Clone, Copy, PartialEq, Eq)]
+pub struct HostUses {
+    pub number: usize,
+    pub place: usize,
+    pub states: [u8; MOST],
+    pub parameters: [u8; PARAMETERS],
+    pub clips: [u8; MOST],
+}
+
 /// A frame or a page frame.
 #[derive(Clone, Copy, Debug, PartialEq, Eq)]
 pub enum Shown {
@@ -59,6 +75,7 @@ pub trait Evaluator {
         output: &mut [f32],
     ) -> Answer;
     fn read_text(&self, text: &[u8], plan: &mut [u16], numbers: &mut [f32]) -> TextAnswer;
+    fn uses(&self, plan: &[u16], numbers: &[f32]) -> HostUses;
     fn player_size(&self) -> usize;
     fn output_length(&self, plan: &[u16]) -> usize;
     fn most_words(&self) -> usize;
@@ -104,6 +121,53 @@ impl fmt::Debug for TextAnswer {
             f,
             "{:?} with {words} words and {numbers} numbers",
             Answer { number, place }
+        )
+    }
+}
+
+impl HostUses {
+    pub fn of(uses: Result<Uses, Refusal>) -> HostUses {
+        let Answer { number, place } = Answer::of(uses.as_ref().map(|_| ()).map_err(|r| *r));
+        let mut answer = HostUses {
+            number,
+            place,
+            states: [0; MOST],
+            parameters: [0; PARAMETERS],
+            clips: [0; MOST],
+        };
+        if let Ok(uses) = uses {
+            put_marks(&mut answer.states, &uses.states);
+            put_marks(&mut answer.parameters, &uses.parameters);
+            put_marks(&mut answer.clips, &uses.clips);
+        }
+        answer
+    }
+}
+
+/// At the front.
+pub fn put_marks(bytes: &mut [u8], marks: &[bool]) {
+    for (byte, mark) in bytes.iter_mut().zip(marks) {
+        *byte = u8::from(*mark);
+    }
+}
+
+impl fmt::Debug for HostUses {
+    fn fmt(&self, f: &mut fmt::Formatter) -> fmt::Result {
+        let (number, place) = (self.number, self.place);
+        let digits = |marks: &[u8]| -> String {
+            let digit = |mark: &u8| match mark {
+                0..=9 => mark.to_string(),
+                _ => format!("({mark})"),
+            };
+            marks.iter().map(digit).collect()
+        };
+        write!(
+            f,
+            "{:?} states {} parameters {} clips {}",
+            Answer { number, place },
+            digits(&self.states),
+            digits(&self.parameters),
+            digits(&self.clips)
         )
     }
 }

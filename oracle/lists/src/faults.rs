@@ -1,171 +1,9 @@
 //! The library with a fault put in on the way.
 
 use crate::endings::with_endings;
-use crate::evaluator::{Answer, Evaluator, HostPlayer, Shown, TextAnswer};
+use crate::evaluator::{Answer, Evaluator, HostPlayer, HostUses, Shown, TextAnswer};
+pub use crate::fault::Fault;
 use crate::frame::{checked, Frame};
-
-#[derive(Clone, Copy, Debug, PartialEq, Eq)]
-pub enum Fault {
-    None,
-    ClockWithoutSpeed,
-    SpeedLost,
-    NeighbourSet,
-    SetKeepsOldValue,
-    SetAcceptsTooMuch,
-    StartPlace,
-    StartNotBlank,
-    StartForgetsRates,
-    StateKept,
-    TransitionKept,
-    StartWithoutExt,
-    DurationRounded,
-    InstancesKept,
-    MatrixBit,
-    ZeroSign,
-    LastFloatMissing,
-    FloatTooMany,
-    RefusedFrameWrites,
-    RefusedFrameMoves,
-    PageNotTransposed,
-    PageTransposedLate,
-    PageParentTransposed,
-    PageRootLeftAlone,
-    PageRootNotMultiplied,
-    PageWhollyTransposed,
-    NineForTen,
-    FrameRefused,
-    FramePlace,
-    TextPlace,
-    TextRefusedWrites,
-    TextCount,
-    StopLoops,
-    LoopStops,
-    StopsAtCount,
-    HeldFactorKept,
-    HeldWithoutLerp,
-    InfinityLoops,
-    NanHeld,
-    EndingAccepted,
-    EndingPlace,
-    EndingNumber,
-    FrameEnding,
-    EndingBeforeCount,
-    EndingsAfterCounts,
-    TextEndingLost,
-    PauseRefused,
-    PauseEndingAccepted,
-    PauseWithoutRate,
-    PauseLerped,
-    PauseSkipped,
-    EmptyStopShowsNext,
-    EmptyLoopShowsLast,
-    EmptyFirstSynchronised,
-    EmptySecondSynchronised,
-    EmptyBothSynchronised,
-    OtherSynchronised,
-    TextPauseRefused,
-    ByteRootAt65,
-    ByteRootLater,
-    ByteRootRefused,
-    RootRefused,
-    ByteParent,
-    ByteJoint,
-    OldJointLimit,
-    JointLimitPassed,
-    ShortOutputTaken,
-    LateJointsKept,
-    LastBlockKept,
-    TextOldLimit,
-    TextLimitPassed,
-}
-
-impl Fault {
-    const OTHERS: [Fault; 51] = [
-        Fault::ClockWithoutSpeed,
-        Fault::SpeedLost,
-        Fault::NeighbourSet,
-        Fault::SetKeepsOldValue,
-        Fault::SetAcceptsTooMuch,
-        Fault::StartPlace,
-        Fault::StartNotBlank,
-        Fault::StartForgetsRates,
-        Fault::StateKept,
-        Fault::TransitionKept,
-        Fault::StartWithoutExt,
-        Fault::DurationRounded,
-        Fault::InstancesKept,
-        Fault::MatrixBit,
-        Fault::ZeroSign,
-        Fault::LastFloatMissing,
-        Fault::FloatTooMany,
-        Fault::RefusedFrameWrites,
-        Fault::RefusedFrameMoves,
-        Fault::NineForTen,
-        Fault::FrameRefused,
-        Fault::FramePlace,
-        Fault::TextPlace,
-        Fault::TextRefusedWrites,
-        Fault::TextCount,
-        Fault::StopLoops,
-        Fault::LoopStops,
-        Fault::StopsAtCount,
-        Fault::HeldFactorKept,
-        Fault::HeldWithoutLerp,
-        Fault::InfinityLoops,
-        Fault::NanHeld,
-        Fault::EndingAccepted,
-        Fault::EndingPlace,
-        Fault::EndingNumber,
-        Fault::FrameEnding,
-        Fault::EndingBeforeCount,
-        Fault::EndingsAfterCounts,
-        Fault::TextEndingLost,
-        Fault::PauseRefused,
-        Fault::PauseEndingAccepted,
-        Fault::PauseWithoutRate,
-        Fault::PauseLerped,
-        Fault::PauseSkipped,
-        Fault::EmptyStopShowsNext,
-        Fault::EmptyLoopShowsLast,
-        Fault::EmptyFirstSynchronised,
-        Fault::EmptySecondSynchronised,
-        Fault::EmptyBothSynchronised,
-        Fault::OtherSynchronised,
-        Fault::TextPauseRefused,
-    ];
-
-    /// Those about the number of joints, and about the words for a root.
-    pub const OF_JOINTS: [Fault; 13] = [
-        Fault::ByteRootAt65,
-        Fault::ByteRootLater,
-        Fault::ByteRootRefused,
-        Fault::RootRefused,
-        Fault::ByteParent,
-        Fault::ByteJoint,
-        Fault::OldJointLimit,
-        Fault::JointLimitPassed,
-        Fault::ShortOutputTaken,
-        Fault::LateJointsKept,
-        Fault::LastBlockKept,
-        Fault::TextOldLimit,
-        Fault::TextLimitPassed,
-    ];
-
-    /// Those about page frames.
-    pub const OF_PAGES: [Fault; 6] = [
-        Fault::PageNotTransposed,
-        Fault::PageTransposedLate,
-        Fault::PageParentTransposed,
-        Fault::PageRootLeftAlone,
-        Fault::PageRootNotMultiplied,
-        Fault::PageWhollyTransposed,
-    ];
-
-    pub fn all() -> impl Iterator<Item = Fault> {
-        let others = Fault::OTHERS.into_iter();
-        others.chain(Fault::OF_JOINTS).chain(Fault::OF_PAGES)
-    }
-}
 
 pub struct Faulty<'a> {
     pub library: &'a dyn Evaluator,
@@ -346,6 +184,12 @@ impl Evaluator for Faulty<'_> {
             _ => {}
         }
         answer
+    }
+
+    fn uses(&self, plan: &[u16], numbers: &[f32]) -> HostUses {
+        let mut uses = self.library.uses(plan, numbers);
+        self.spoil_uses(plan, numbers, &mut uses);
+        uses
     }
 
     fn player_size(&self) -> usize {

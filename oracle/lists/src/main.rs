@@ -5,6 +5,7 @@ mod abi;
 mod ending_faults;
 mod endings;
 mod evaluator;
+mod fault;
 mod faults;
 mod frame;
 mod joint_faults;
@@ -23,6 +24,8 @@ mod smaller_draft;
 mod step;
 mod sweep;
 mod texts;
+mod uses;
+mod uses_faults;
 
 use abi::Library;
 use random::Amounts;

@@ -55,7 +55,7 @@ fn odd_word(generator: &mut Generator) -> u16 {
     }
 }
 
-fn damage(generator: &mut Generator, figure: &mut Figure) {
+pub fn damage(generator: &mut Generator, figure: &mut Figure) {
     let Figure { plan, numbers } = figure;
     // The first words say how the others are read.
     let front = if generator.below(3) == 0 { 9 } else { 999 };
@@ -151,7 +151,7 @@ pub fn smallest(figure: &Figure, evaluator: &dyn Evaluator) -> (Figure, String) 
 }
 
 /// Without one of its words, with a word as a smaller one, or with other number counts.
-fn smaller_figures(figure: &Figure) -> Vec<Figure> {
+pub fn smaller_figures(figure: &Figure) -> Vec<Figure> {
     let mut figures = Vec::new();
     for length in [
         0,

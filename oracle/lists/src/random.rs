@@ -8,9 +8,11 @@ use crate::shrink::shrunk;
 use crate::step::{random_steps, Step};
 use crate::sweep;
 use crate::texts::{self, random_reading, same_reading};
+use crate::uses::{self, same_uses};
 use compare::generator::Generator;
 use compare::lists::call::parsed;
 use compare::lists::recorded::lists;
+use compare::texts::figure::Figure;
 use compare::texts::printed::read;
 use compare::texts::random_figure::accepted;
 use std::path::Path;
@@ -32,7 +34,11 @@ pub struct Amounts {
 pub enum Found {
     Nothing,
     List(Box<Case>),
-    Plan(compare::texts::figure::Figure),
+    Plan(Figure),
+    /// A figure whose uses are others.
+    Uses(Figure),
+    /// Marks of a kind that were all alike, which shows nothing.
+    Alike(&'static str),
     Text(texts::Reading),
     /// A recorded list, by its name.
     Recorded(String, Mismatch),
@@ -59,10 +65,29 @@ fn recorded(evaluator: &dyn Evaluator, counts: &mut Counts) -> Option<Found> {
     None
 }
 
-/// The first mismatch, and what was compared up to it.
-pub fn compare(evaluator: &dyn Evaluator, amounts: Amounts, seed: u64) -> (Found, [Counts; 3]) {
+/// So many plans, and those that no seed changes: the start of each and what it uses.
+fn plans(
+    evaluator: &dyn Evaluator,
+    count: usize,
+    generator: &mut Generator,
+    [starts, asked]: [&mut Counts; 2],
+) -> Option<Found> {
+    let random = (0..count).map(|_| random_plan(generator));
+    for figure in random.chain(sweep::plans()) {
+        if same_start(&figure, evaluator, starts).is_err() {
+            return Some(Found::Plan(figure));
+        }
+        if same_uses(&figure, evaluator, asked).is_err() {
+            return Some(Found::Uses(figure));
+        }
+    }
+    None
+}
+
+/// The first mismatch, and what was compared up to it: lists, plans, texts and uses.
+pub fn compare(evaluator: &dyn Evaluator, amounts: Amounts, seed: u64) -> (Found, [Counts; 4]) {
     let mut generator = Generator::new(seed);
-    let mut counts = [(); 3].map(|_| Counts::default());
+    let mut counts = [(); 4].map(|_| Counts::default());
     let size = same(
         "the size of a player",
         &std::mem::size_of::<HostPlayer>(),
@@ -77,11 +102,11 @@ pub fn compare(evaluator: &dyn Evaluator, amounts: Amounts, seed: u64) -> (Found
             return (Found::Text(reading), counts);
         }
     }
-    let plans = (0..amounts.plans).map(|_| random_plan(&mut generator));
-    for figure in plans.chain(sweep::plans()) {
-        if same_start(&figure, evaluator, &mut counts[1]).is_err() {
-            return (Found::Plan(figure), counts);
-        }
+    let [_, starts, _, asked] = &mut counts;
+    let found = plans(evaluator, amounts.plans, &mut generator, [starts, asked]);
+    let found = found.or_else(|| uses::compare(evaluator, amounts.plans, seed, asked));
+    if let Some(found) = found {
+        return (found, counts);
     }
     while counts[0].frames < amounts.frames {
         let case = random_case(&mut generator);
@@ -107,7 +132,7 @@ pub fn random(
     folder: &Path,
 ) -> io::Result<bool> {
     println!("lists: seed {seed}");
-    let (found, [lists, plans, texts]) = compare(evaluator, amounts, seed);
+    let (found, [lists, plans, texts, asked]) = compare(evaluator, amounts, seed);
     println!("lists: {}", sentence(&lists));
     println!(
         "lists: {} plans and {} texts; refused: {}; {}",
@@ -116,6 +141,7 @@ pub fn random(
         refusals(&plans),
         refusals(&texts)
     );
+    println!("lists: {}", uses::sentence(&asked));
     print_found(&found, evaluator, folder)?;
     Ok(matches!(found, Found::Nothing))
 }
@@ -137,6 +163,8 @@ fn print_found(found: &Found, evaluator: &dyn Evaluator, folder: &Path) -> io::R
             println!("start of the plan {:?} with {numbers} numbers", least.plan);
             println!("mismatch in {what}");
         }
+        Found::Uses(figure) => uses::print(figure, evaluator, folder)?,
+        Found::Alike(kind) => println!("lists: the marks of {kind} were all alike"),
         Found::Text(reading) => {
             let (least, what) = texts::smallest(reading, evaluator);
             let (words, numbers) = (least.words, least.numbers);
@@ -164,7 +192,7 @@ fn by_calls(evaluator: &dyn Evaluator) -> Option<Case> {
         .find(|case| run(case, evaluator, &mut Counts::default()).is_some())
 }
 
-fn refusals(counts: &Counts) -> String {
+pub fn refusals(counts: &Counts) -> String {
     let refusal = |(number, count): (&usize, &usize)| format!("{number} {count} times");
     let all: Vec<String> = counts.refused.iter().map(refusal).collect();
     all.join(", ")

@@ -49,6 +49,8 @@ pub struct Counts {
     pub ended: usize,
     pub stores: usize,
     pub refused: BTreeMap<usize, usize>,
+    /// How many marks were 0 and 1, of states, of parameters and of clips.
+    pub marks: [[usize; 2]; 3],
 }
 
 /// The case's first difference.

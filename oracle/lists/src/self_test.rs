@@ -5,6 +5,7 @@ use crate::evaluator::Evaluator;
 use crate::faults::{Fault, Faulty};
 use crate::random::{compare, Amounts, Found};
 use crate::shrink::shrunk;
+use crate::uses;
 
 const SEED: u64 = 1;
 
@@ -16,6 +17,10 @@ const AMOUNTS: Amounts = Amounts {
 
 /// A list that shows a fault is cut down to this many calls.
 const FEW_STEPS: usize = 4;
+
+/// A plan whose uses show a fault is cut down to this many words: two states, one of which goes to the
+/// other, have 23.
+const FEW_WORDS: usize = 40;
 
 /// Found as it should be, or why not.
 fn judged(library: &dyn Evaluator, fault: Fault) -> Result<String, String> {
@@ -36,6 +41,16 @@ fn judged(library: &dyn Evaluator, fault: Fault) -> Result<String, String> {
             }
         }
         (Found::Plan(_), _) => Ok("a start".to_string()),
+        (Found::Uses(figure), _) => {
+            let words = uses::smallest(&figure, &faulty).0.plan.len();
+            let sentence = format!("what is used, {words} words");
+            if words <= FEW_WORDS {
+                Ok(sentence)
+            } else {
+                Err(sentence)
+            }
+        }
+        (Found::Alike(kind), _) => Err(format!("marks of {kind} all alike")),
         (Found::Text(_), _) => Ok("a text".to_string()),
         (Found::Recorded(name, _), _) => Ok(format!("recorded list {name}")),
         (Found::Size(_), _) => Err("a player's size".to_string()),

@@ -152,7 +152,7 @@ mod tests {
             let (found, _) = compared(&Faulty { library, fault }, none, 0);
             assert!(!matches!(found, Found::Nothing), "{fault:?}");
         }
-        let (found, [lists, plans, texts]) = compared(&Library, none, 0);
+        let (found, [lists, plans, texts, _]) = compared(&Library, none, 0);
         assert!(matches!(found, Found::Nothing));
         let joints = edges().filter(|&joints| joints > 64);
         assert!(lists.wide >= joints.count());

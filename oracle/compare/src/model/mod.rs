@@ -9,6 +9,7 @@ pub mod pose;
 pub mod rotation;
 pub mod skeleton;
 pub mod tree;
+pub mod uses;
 
 use crate::player::{Player, BLANK, PARAMETERS};
 use crate::texts::figure::{Figure, Refusal};
@@ -117,3 +118,5 @@ mod page_tests;
 mod pause_tests;
 #[cfg(test)]
 mod tests;
+#[cfg(test)]
+mod uses_tests;

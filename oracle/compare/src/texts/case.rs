@@ -2,6 +2,7 @@
 //! bytes. Each is answered by its header line and what the reference prints.
 
 use super::printed::printed;
+use super::uses;
 
 #[derive(Clone, Copy, Debug, PartialEq, Eq)]
 pub enum Kind {
@@ -9,6 +10,8 @@ pub enum Kind {
     Text,
     /// What is printed for the bytes with any one of them replaced by any other value.
     Damage,
+    /// What `inspect uses` prints for the bytes.
+    Uses,
 }
 
 #[derive(Clone, Debug, PartialEq, Eq)]
@@ -32,10 +35,18 @@ impl Case {
         }
     }
 
+    pub fn uses(bytes: impl Into<Vec<u8>>) -> Case {
+        Case {
+            kind: Kind::Uses,
+            bytes: bytes.into(),
+        }
+    }
+
     fn header(&self) -> String {
         let name = match self.kind {
             Kind::Text => "text",
             Kind::Damage => "damage",
+            Kind::Uses => "uses",
         };
         format!("{name},{:08x}\n", self.bytes.len())
     }
@@ -48,6 +59,7 @@ impl Case {
         let printed = match self.kind {
             Kind::Text => printed(&self.bytes),
             Kind::Damage => damages(&self.bytes),
+            Kind::Uses => uses::printed(&self.bytes),
         };
         self.header() + &printed
     }
@@ -92,7 +104,8 @@ fn fnv_1a(bytes: &[u8]) -> u64 {
 pub fn answers(output: &[u8]) -> Vec<Vec<u8>> {
     let mut answers: Vec<Vec<u8>> = Vec::new();
     for line in output.split_inclusive(|&byte| byte == b'\n') {
-        let is_header = line.starts_with(b"text,") || line.starts_with(b"damage,");
+        let names: [&[u8]; 3] = [b"text,", b"damage,", b"uses,"];
+        let is_header = names.iter().any(|name| line.starts_with(name));
         match answers.last_mut() {
             Some(answer) if !is_header => answer.extend(line),
             _ => answers.push(line.to_vec()),
@@ -119,6 +132,14 @@ mod tests {
         assert_eq!(case.answer(), "text,00000009\nrefused,11,1\n");
     }
 
+    /// The same size field at the same place as a text's.
+    #[test]
+    fn uses_have_a_texts_header() {
+        let case = Case::uses(*b"figure,1\n");
+        assert_eq!(case.input(), b"uses,00000009\nfigure,1\n");
+        assert_eq!(case.answer(), "uses,00000009\nrefused,11,1\n");
+    }
+
     /// In `figure,0,0,0,0,0` a J from 1 on asks for a second line, and no digit refuses the first.
     #[test]
     fn damage_is_told_where_it_changes() {
@@ -141,11 +162,13 @@ mod tests {
 
     #[test]
     fn an_output_is_cut_at_its_headers() {
-        let output = b"text,00000000\nrefused,11,1\ndamage,00000001\n0,0,refused,11,1\n";
+        let output = b"text,00000000\nrefused,11,1\nuses,00000000\nrefused,11,1\n\
+            damage,00000001\n0,0,refused,11,1\n";
         let cut = answers(output);
-        assert_eq!(cut.len(), 2);
+        assert_eq!(cut.len(), 3);
         assert_eq!(cut[0], Case::text(*b"").answer().as_bytes());
-        assert_eq!(cut[1], Case::damage(*b"\n").answer().as_bytes());
+        assert_eq!(cut[1], Case::uses(*b"").answer().as_bytes());
+        assert_eq!(cut[2], Case::damage(*b"\n").answer().as_bytes());
         assert!(answers(b"").is_empty());
     }
 }

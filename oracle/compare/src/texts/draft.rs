@@ -1,6 +1,7 @@
 //! A figure while it is put together, right or wrong, and its text.
 
 use super::figure::Figure;
+use super::plan::{self, check, Node};
 use crate::row::joined;
 
 /// The counts of its text are the lengths here.
@@ -38,6 +39,39 @@ pub struct Transition {
 }
 
 impl Draft {
+    /// The draft of a figure that the start takes.
+    pub fn of(figure: &Figure) -> Option<Draft> {
+        let plan = check(figure).ok()?;
+        let mut numbers = figure.numbers.iter().copied();
+        let mut next = || {
+            numbers
+                .next()
+                .expect("as many numbers as the plan asks for")
+        };
+        let clips = plan.clips.iter().map(|clip| Clip {
+            samples: clip.samples,
+            rate: next(),
+            ending: u16::from(clip.stops),
+        });
+        let clips = clips.collect();
+        let states = plan.states.iter().map(|state| State {
+            nodes: state.nodes.iter().map(node_words).collect(),
+            transitions: transitions(state, &mut next),
+        });
+        let states = states.collect();
+        let poses = numbers.collect::<Vec<u32>>();
+        let poses = poses.chunks(8).map(|pose| pose.try_into());
+        Some(Draft {
+            parameters: plan.parameters,
+            initial: plan.initial,
+            // A root has two words, so these are the plan's own.
+            parents: figure.plan[5..5 + plan.parents.len()].to_vec(),
+            clips,
+            states,
+            poses: poses.collect::<Result<_, _>>().ok()?,
+        })
+    }
+
     /// How many pose lines the counts ask for.
     pub fn pose_count(&self) -> usize {
         let samples = self.clips.iter().map(|clip| usize::from(clip.samples));
@@ -91,6 +125,22 @@ impl Draft {
     }
 }
 
+fn node_words(node: &Node) -> [u16; 4] {
+    match node {
+        Node::Clip(clip) => [0, *clip, 0, 0],
+        Node::Lerp(inputs) => [1, inputs.a, inputs.b, inputs.parameter],
+        Node::Additive(inputs) => [2, inputs.a, inputs.b, inputs.parameter],
+    }
+}
+
+fn transitions(state: &plan::State, next: &mut impl FnMut() -> u32) -> Vec<Transition> {
+    let transition = |go: &plan::Transition| Transition {
+        words: [go.parameter, go.operator, go.target],
+        numbers: [next(), next()],
+    };
+    state.transitions.iter().map(transition).collect()
+}
+
 impl Clip {
     fn text(&self) -> String {
         let Clip {
@@ -118,6 +168,7 @@ impl State {
 
 #[cfg(test)]
 mod tests {
+    use super::*;
     use crate::generator::Generator;
     use crate::texts::random_figure::accepted;
     use crate::texts::reader::read;
@@ -128,6 +179,16 @@ mod tests {
         for _ in 0..200 {
             let draft = accepted(&mut generator);
             assert_eq!(read(draft.text().as_bytes()), Ok(draft.figure()));
+        }
+    }
+
+    #[test]
+    fn a_figure_has_its_draft() {
+        let mut generator = Generator::new(2);
+        for _ in 0..200 {
+            let figure = accepted(&mut generator).figure();
+            let again = Draft::of(&figure).map(|draft| draft.figure());
+            assert_eq!(again, check(&figure).is_ok().then_some(figure));
         }
     }
 }

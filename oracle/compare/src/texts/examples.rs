@@ -4,6 +4,7 @@ use super::case::Case;
 use super::edges::{edges, BLEND};
 use super::limits::{full_text, long_text, most_words_text, pauses_text, shown_text, Long};
 use super::printed::{printed, LONGEST};
+use super::uses;
 use crate::generator::Generator;
 use std::collections::BTreeMap;
 use std::fs;
@@ -63,6 +64,7 @@ fn cases(figures: &BTreeMap<String, Vec<u8>>) -> io::Result<Vec<Case>> {
         Case::damage(damaged.clone()),
         Case::damage(BLEND),
     ]);
+    cases.extend(uses::cases(figures));
     Ok(cases)
 }
 
