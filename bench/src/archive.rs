@@ -1,7 +1,7 @@
 //! The archive's calls, by their C names, on buffers of their own.
 
 use crate::draft::{Draft, VALUES};
-use crate::sys::{self, RawAnswer, RawPlayer};
+use crate::sys::{self, RawAnswer, RawPlayer, RawUses};
 use gentianlathe as _; // links the archive
 
 const ACCEPTED: RawAnswer = RawAnswer {
@@ -65,6 +65,17 @@ impl Archive {
             )
         };
         assert_eq!(answer, ACCEPTED);
+    }
+
+    /// What the figure can ever use.
+    pub fn uses(&self) -> RawUses {
+        let (plan, numbers) = (&self.plan, &self.numbers);
+        // SAFETY: two slices.
+        let uses = unsafe {
+            sys::gentianlathe_uses(plan.as_ptr(), plan.len(), numbers.as_ptr(), numbers.len())
+        };
+        assert_eq!(uses.number, 0);
+        uses
     }
 
     pub fn in_transition(&self) -> bool {

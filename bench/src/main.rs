@@ -14,6 +14,7 @@ mod reference;
 #[allow(dead_code)]
 #[path = "../../bindings/rust/src/sys.rs"]
 mod sys;
+mod uses;
 
 use archive::{Archive, Text};
 use draft::{Draft, Size};
@@ -312,6 +313,7 @@ fn main() {
     growths(time);
     many_joints(time);
     pages::pages(time);
+    uses::uses(time);
     endings(time);
     texts(time);
 }

@@ -2,11 +2,15 @@
  * A small host in C: reads a figure's text, starts it, shows frames.
  *
  *     example [-p] [FIGURE [SECONDS [PARAMETER VALUE]]]
+ *     example -u [FIGURE]
  *
  * FIGURE is a file with a figure's text (default: examples/printed.figure, from the repository's folder).
  * The first frame right after the start is printed as the program gentianlathe prints it, with ext 0. Where
  * SECONDS are given the player is then updated by them, the parameter takes its value if one is named, and
  * a second frame is printed. With -p both are page frames.
+ *
+ * With -u no frame is shown. It prints what the figure can ever use, as `inspect uses` does: `ok`, and then for each
+ * state, parameter and clip a line with its number and its mark, 1 or 0.
  *
  * A refusal is printed as `refused,number,place`, and put in words on standard error.
  * Exit status: 0 shown, 1 refused, 2 something else went wrong (usage, file, memory, a foreign archive).
@@ -34,6 +38,7 @@ typedef struct {
 
 typedef struct {
     int pages; /* whether page frames are asked for */
+    int uses;  /* whether what the figure can use is asked for, and no frame */
     const char *path;
     int again; /* whether a second frame is asked for */
     double seconds;
@@ -166,9 +171,30 @@ static int play(const figure *played, const options *asked)
     return status;
 }
 
+static void print_marks(const char *name, const uint8_t *marks, size_t count)
+{
+    for (size_t i = 0; i < count; i++)
+        printf("%s,%lu,%u\n", name, (unsigned long)i, (unsigned)marks[i]);
+}
+
+static int list_uses(const figure *listed)
+{
+    gentianlathe_uses_answer uses =
+        gentianlathe_uses(listed->plan, listed->words, listed->numbers, listed->count);
+    if (uses.number != 0)
+        return refuse(uses.number, uses.place);
+    puts("ok");
+    /* An accepted plan has C, P and S in its words 1 to 3. */
+    print_marks("state", uses.states, listed->plan[3]);
+    print_marks("parameter", uses.parameters, listed->plan[2]);
+    print_marks("clip", uses.clips, listed->plan[1]);
+    return SHOWN;
+}
+
 static int usage(void)
 {
-    fprintf(stderr, "usage: example [-p] [FIGURE [SECONDS [PARAMETER VALUE]]]\n");
+    fprintf(stderr, "usage: example [-p] [FIGURE [SECONDS [PARAMETER VALUE]]]\n"
+                    "       example -u [FIGURE]\n");
     return FAILED;
 }
 
@@ -176,13 +202,14 @@ static int parse(int count, char **words, options *asked)
 {
     char *end = NULL;
     memset(asked, 0, sizeof *asked);
-    if (count > 1 && strcmp(words[1], "-p") == 0) {
-        asked->pages = 1;
+    if (count > 1 && (strcmp(words[1], "-p") == 0 || strcmp(words[1], "-u") == 0)) {
+        asked->pages = words[1][1] == 'p';
+        asked->uses = words[1][1] == 'u';
         count--;
         words++;
     }
     asked->path = count > 1 ? words[1] : "examples/printed.figure";
-    if (count == 4 || count > 5)
+    if (count == 4 || count > (asked->uses ? 2 : 5))
         return usage();
     if (count > 2) {
         asked->again = 1;
@@ -219,7 +246,7 @@ int main(int count, char **words)
     if (status == SHOWN)
         status = read_figure(&from, &read);
     if (status == SHOWN)
-        status = play(&read, &asked);
+        status = asked.uses ? list_uses(&read) : play(&read, &asked);
     free(read.numbers);
     free(read.plan);
     free(from.bytes);

@@ -38,6 +38,10 @@ extern "C" {
 #define GENTIANLATHE_MAX_JOINTS 400
 #define GENTIANLATHE_ROOT 65535
 
+/* The most states and clips of a figure: as many have a mark in what gentianlathe_uses answers. */
+#define GENTIANLATHE_MAX_STATES 16
+#define GENTIANLATHE_MAX_CLIPS 16
+
 /* A player has 32 parameters and 64 clip instances of three floats each; a matrix has 16 floats. */
 #define GENTIANLATHE_PARAMETERS 32
 #define GENTIANLATHE_INSTANCES 64
@@ -108,6 +112,27 @@ typedef struct gentianlathe_text_answer {
 } gentianlathe_text_answer;
 
 /*
+ * What a figure can ever use. Number and place are an answer's, as above; every mark is 0 or 1:
+ *
+ *   states[s]      1: state s is reachable. It is the initial one, or a chain of transitions leads to it from there
+ *   parameters[p]  1: a reachable state reads parameter p, by a lerp or additive node or by a condition
+ *   clips[c]       1: a reachable state plays clip c, which may be one without samples
+ *
+ * A figure has S states, P parameters and C clips (words 3, 2 and 1 of its plan); the marks behind these are 0. Where
+ * refused, all marks are 0.
+ */
+typedef struct gentianlathe_uses_answer {
+    size_t number;
+    size_t place;
+    uint8_t states[GENTIANLATHE_MAX_STATES];
+    uint8_t parameters[GENTIANLATHE_PARAMETERS];
+    uint8_t clips[GENTIANLATHE_MAX_CLIPS];
+} gentianlathe_uses_answer;
+
+/* It comes by value, so a host that expects another size would have its stack written over. */
+typedef char gentianlathe_uses_answer_has_80_bytes[sizeof(gentianlathe_uses_answer) == 80 ? 1 : -1];
+
+/*
  * Checks a figure and starts it: *player becomes a fresh player, in the plan's initial state.
  * Refused with 1 to 7 or 14; *player is then the blank one. What *player held before does not matter.
  */
@@ -151,6 +176,27 @@ gentianlathe_answer gentianlathe_page_frame(const uint16_t *plan, size_t plan_le
                                             const float *numbers, size_t numbers_length,
                                             gentianlathe_player *player, double ext,
                                             float *output, size_t output_length);
+
+/*
+ * Tells which states of a figure are reachable, and which parameters and clips these use: gentianlathe_uses_answer says
+ * what a mark of 1 means. A mark of 0 means that it never matters: a player that was started on this figure never gets
+ * to that state, no frame of it changes by that parameter's value, nor by that clip's rate and poses. (A host that
+ * stores another state into a player gets there all the same.)
+ *
+ * A mark of 1 does not promise that it will be seen. Conditions are not weighed: a transition counts also where no value
+ * of its parameter lets it pass.
+ *
+ * So authors list what nobody can see before a figure goes to review:
+ *
+ *     gentianlathe_uses_answer uses = gentianlathe_uses(plan, plan_length, numbers, numbers_length);
+ *     for (size_t clip = 0; uses.number == 0 && clip < plan[1]; clip++)
+ *         if (uses.clips[clip] == 0)
+ *             printf("clip %lu is never played\n", (unsigned long)clip);
+ *
+ * Refused as a start of the figure is, with 1 to 7 or 14.
+ */
+gentianlathe_uses_answer gentianlathe_uses(const uint16_t *plan, size_t plan_length,
+                                           const float *numbers, size_t numbers_length);
 
 /*
  * Reads a figure's text. Accepted, the front of both slices holds plan and numbers, the answer tells how much

@@ -6,7 +6,8 @@
  *     stack        exit status: 0 all within the bound, 1 not
  *
  * The figure has the most joints, in a chain, and two states with the deepest tree that 31 nodes can make; it is
- * shown in the middle of a transition, so that both are evaluated.
+ * shown in the middle of a transition, so that both are evaluated. Behind these come small states up to the most that
+ * there can be, each with the most transitions and all of them to the next state: no states take longer to be reached.
  */
 #define _XOPEN_SOURCE 700
 #include "gentianlathe.h"
@@ -21,10 +22,12 @@ enum {
     BOUND = PROMISED / 2, /* the rest is for the host's own calls, and for what a signal handler takes */
     PAINT = 0xa5,
     JOINTS = GENTIANLATHE_MAX_JOINTS,
-    CLIPS = 16,
+    CLIPS = GENTIANLATHE_MAX_CLIPS,
+    STATES = GENTIANLATHE_MAX_STATES,
+    TRANSITIONS = 16, /* of each state */
     OUTPUT = GENTIANLATHE_MATRIX * JOINTS,
     WORDS = 4096,
-    NUMBERS = CLIPS + 2 + 8 * JOINTS * CLIPS,
+    NUMBERS = CLIPS + 2 * STATES * TRANSITIONS + 8 * JOINTS * CLIPS,
     TEXT = 1 << 20
 };
 
@@ -36,36 +39,46 @@ static size_t text_length;
 static float output[OUTPUT];
 static gentianlathe_player player;
 static size_t number; /* of the last answer */
+static unsigned last_mark; /* whether the last state is reachable */
 
 static void put(unsigned word)
 {
     plan[words++] = (uint16_t)word;
 }
 
-/* A tree over all clips: each node that is no clip has the one before it for its first input. */
-static void put_tree(void)
+/* A tree over so many clips: each node that is no clip has the one before it for its first input. */
+static void put_tree(unsigned clips)
 {
-    put(2 * CLIPS - 1);
-    for (unsigned clip = 0; clip < CLIPS; clip++) {
+    put(2 * clips - 1);
+    for (unsigned clip = 0; clip < clips; clip++) {
         put(0), put(clip), put(0), put(0);
     }
-    for (unsigned clip = 1; clip < CLIPS; clip++) {
-        put(1 + clip % 2), put(clip == 1 ? 0 : CLIPS + clip - 2), put(clip), put(0);
+    for (unsigned clip = 1; clip < clips; clip++) {
+        put(1 + clip % 2), put(clip == 1 ? 0 : clips + clip - 2), put(clip), put(0);
+    }
+}
+
+/* To the next state, and from the last to itself, where parameter 0 is at most 1. */
+static void put_transitions(unsigned state)
+{
+    put(TRANSITIONS);
+    for (unsigned i = 0; i < TRANSITIONS; i++) {
+        put(0), put(1), put(state + 1 < STATES ? state + 1 : state);
     }
 }
 
 static void make_figure(void)
 {
-    put(JOINTS), put(CLIPS), put(1), put(2), put(0);
+    put(JOINTS), put(CLIPS), put(1), put(STATES), put(0);
     for (unsigned joint = 0; joint < JOINTS; joint++)
         put(joint == 0 ? GENTIANLATHE_ROOT : joint - 1);
     for (unsigned clip = 0; clip < CLIPS; clip++) {
         put(1), put(clip % 2);
     }
-    put_tree();
-    put(1), put(0), put(1), put(1); /* to state 1 where parameter 0 is at most 1 */
-    put_tree();
-    put(0);
+    for (unsigned state = 0; state < STATES; state++) {
+        put_tree(state < 2 ? CLIPS : 2); /* 60 clip nodes in all, of at most 64 */
+        put_transitions(state);
+    }
     for (size_t i = 0; i < NUMBERS; i++)
         numbers[i] = 1.0f;
 }
@@ -98,6 +111,14 @@ static void frame(void)
 static void page_frame(void)
 {
     number = gentianlathe_page_frame(plan, words, numbers, NUMBERS, &player, 0.0, output, OUTPUT).number;
+}
+
+/* The last state is reached only by way of all others. */
+static void uses(void)
+{
+    gentianlathe_uses_answer answer = gentianlathe_uses(plan, words, numbers, NUMBERS);
+    number = answer.number;
+    last_mark = answer.states[STATES - 1];
 }
 
 static void read_text(void)
@@ -140,7 +161,7 @@ int main(void)
         const char *name;
         void (*call)(void);
     } calls[] = {{"start", start}, {"update", update}, {"speed", speed}, {"set", set}, {"frame", frame},
-                 {"page_frame", page_frame}, {"read_text", read_text}, {"the four sizes", sizes}};
+                 {"page_frame", page_frame}, {"uses", uses}, {"read_text", read_text}, {"the four sizes", sizes}};
     int failed = 0;
     make_figure();
     make_text();
@@ -158,6 +179,10 @@ int main(void)
     putchar('\n');
     if (player.running == 0) {
         fprintf(stderr, "c: stack: the frames were not shown in a transition\n");
+        failed = 1;
+    }
+    if (last_mark != 1) {
+        fprintf(stderr, "c: stack: the last state was not reached\n");
         failed = 1;
     }
     return failed;

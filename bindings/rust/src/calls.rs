@@ -6,7 +6,7 @@
 //! before a player exists.
 
 use crate::refusal::Refusal;
-use crate::sys::{self, RawAnswer, RawPlayer};
+use crate::sys::{self, RawAnswer, RawPlayer, RawUses};
 use std::mem::size_of;
 use std::sync::Once;
 
@@ -113,6 +113,20 @@ pub fn frame(
             output.len(),
         )
     })
+}
+
+/// The answer about what the figure can use, and its marks: all 0 where refused.
+pub fn uses(figure: Slices) -> (Result<(), Refusal>, RawUses) {
+    let Slices { plan, numbers } = figure;
+    // SAFETY: two slices to read; the answer comes by value.
+    let uses = unsafe {
+        sys::gentianlathe_uses(plan.as_ptr(), plan.len(), numbers.as_ptr(), numbers.len())
+    };
+    let answer = RawAnswer {
+        number: uses.number,
+        place: uses.place,
+    };
+    (result(answer), uses)
 }
 
 /// How many words and numbers were written in front of the two slices.

@@ -3,6 +3,7 @@
 use crate::calls::{self, Slices};
 use crate::player::Player;
 use crate::refusal::Refusal;
+use crate::uses::Uses;
 use std::fmt;
 
 /// A figure that the start's check has accepted: a plan with its numbers.
@@ -70,6 +71,36 @@ impl Figure {
     /// A fresh player, in the figure's initial state.
     pub fn start(&self) -> Player {
         self.fresh.clone()
+    }
+
+    /// Which states are reachable, which parameters they read and which clips they play: see [`Uses`]. Never refused,
+    /// since the figure was accepted before; [`uses`](crate::uses()) takes any plan.
+    ///
+    /// ```
+    /// # use gentianlathe::Figure;
+    /// // State 0 plays clip 0. State 1 blends clips 1 and 2, but no transition leads to it.
+    /// let text = b"figure,1,3,1,2,0\n\
+    ///              joint,65535\n\
+    ///              clip,0,3f800000,0\n\
+    ///              clip,0,3f800000,0\n\
+    ///              clip,0,3f800000,0\n\
+    ///              state,1,0\n\
+    ///              node,0,0,0,0\n\
+    ///              state,3,0\n\
+    ///              node,0,1,0,0\n\
+    ///              node,0,2,0,0\n\
+    ///              node,1,0,1,0\n";
+    /// let uses = Figure::from_text(text)?.uses();
+    /// let clips = uses.clips.iter().enumerate();
+    /// let never_played: Vec<usize> = clips.filter(|(_, used)| !**used).map(|(clip, _)| clip).collect();
+    /// assert_eq!(never_played, [1, 2]);
+    /// assert_eq!(uses.states, [true, false]);
+    /// assert_eq!(uses.parameters, [false]);
+    /// # Ok::<(), gentianlathe::Refusal>(())
+    /// ```
+    pub fn uses(&self) -> Uses {
+        let (_, marks) = calls::uses(self.slices());
+        Uses::from_marks(&self.plan, &marks)
     }
 
     /// How many joints the figure has: 1 to [`MAX_JOINTS`](crate::MAX_JOINTS).

@@ -27,9 +27,11 @@
 //! # }
 //! ```
 //!
+//! What a figure can ever use, and so also what nobody can see of it, is told by [`Figure::uses`].
+//!
 //! A call that is refused says why by a [`Refusal`] and changes nothing. No call panics, allocates (but for
-//! [`Figure::from_text`]) or is undefined, whatever it is given. The evaluator keeps nothing between calls, and
-//! [`Figure`] and [`Player`] are plain data: both are [`Send`] and [`Sync`].
+//! [`Figure::from_text`], and for the lists of [`Uses`]) or is undefined, whatever it is given. The evaluator keeps
+//! nothing between calls, and [`Figure`] and [`Player`] are plain data: both are [`Send`] and [`Sync`].
 //!
 //! Floats follow IEEE 754. Which payload and sign a NaN has is not promised.
 //!
@@ -50,11 +52,13 @@ mod raw_tests;
 mod refusal;
 #[allow(missing_docs)]
 mod sys;
+mod uses;
 
 pub use figure::{most_numbers, most_words, read_text, Figure, Written};
 pub use player::{ClipInstance, Player, PlayerParts, Transition, INSTANCES};
 pub use refusal::Refusal;
-pub use sys::PARAMETERS;
+pub use sys::{MAX_CLIPS, MAX_STATES, PARAMETERS};
+pub use uses::{uses, Uses};
 
 /// How many floats a joint's matrix has.
 pub const MATRIX_FLOATS: usize = 16;

@@ -1,8 +1,8 @@
-//! The player's layout, fields that mean nothing, whole answers: what only the raw calls can show.
+//! The layouts, fields that mean nothing, whole answers, every mark: what only the raw calls can show.
 
 use crate::calls::{self, FrameKind, Slices};
 use crate::player::Player;
-use crate::sys::{self, RawPlayer, RawTextAnswer};
+use crate::sys::{self, RawPlayer, RawTextAnswer, RawUses};
 use std::mem::{offset_of, size_of};
 
 const PLAN: [u16; 14] = [1, 1, 0, 1, 0, 255, 1, 0, 1, 0, 0, 0, 0, 0];
@@ -92,4 +92,89 @@ fn a_refused_readings_counts_are_0() {
     assert_eq!(read(text, 14, 8), answer(12, 0, 0, 0));
     assert_eq!(read(&text[..60], 14, 9), answer(11, 5, 0, 0));
     assert_eq!(read(b"", 0, 0), answer(11, 1, 0, 0));
+}
+
+#[test]
+fn layout_of_the_marks() {
+    assert_eq!(size_of::<RawUses>(), 80);
+    assert_eq!(offset_of!(RawUses, states), 16);
+    assert_eq!(offset_of!(RawUses, parameters), 32);
+    assert_eq!(offset_of!(RawUses, clips), 64);
+}
+
+/// Two joints, 3 clips without samples, 4 parameters. State 1 is initial: it blends clips 0 and 2 by parameter 3, and
+/// leads to state 0, which plays clip 0, by parameter 1. Nothing leads to state 2, which plays clip 1.
+const BRANCHED: [u16; 45] = [
+    2, 3, 4, 3, 1, // J C P S I
+    65535, 0, // parents
+    0, 0, 0, 1, 0, 0, // N and ending
+    1, 0, 0, 0, 0, 0, // state 0
+    3, 0, 0, 0, 0, 0, 2, 0, 0, 2, 0, 1, 3, 1, 1, 5, 0, // state 1
+    1, 0, 1, 0, 0, 1, 2, 0, 0, // state 2, which would lead to state 0 by parameter 2
+];
+
+/// Three rates, and the value and duration of two transitions. No pose: no clip has samples.
+const BRANCHED_NUMBERS: [f32; 7] = [1.0; 7];
+
+fn uses(plan: &[u16], numbers: &[f32]) -> RawUses {
+    calls::uses(Slices { plan, numbers }).1
+}
+
+/// That all marks are 0 or 1, and 0 behind what the figure has; where refused, that all are 0.
+fn assert_marks(plan: &[u16], uses: &RawUses) {
+    let lists = [
+        (&uses.states[..], 3),
+        (&uses.parameters[..], 2),
+        (&uses.clips[..], 1),
+    ];
+    for (marks, word) in lists {
+        let count = match uses.number {
+            0 => usize::from(plan[word]),
+            _ => 0,
+        };
+        assert!(marks[..count].iter().all(|mark| *mark <= 1), "{uses:?}");
+        assert!(marks[count..].iter().all(|mark| *mark == 0), "{uses:?}");
+    }
+}
+
+#[test]
+fn every_mark_of_a_figure() {
+    let mut expected = RawUses {
+        number: 0,
+        place: 0,
+        states: [0; 16],
+        parameters: [0; 32],
+        clips: [0; 16],
+    };
+    expected.states[..3].copy_from_slice(&[1, 1, 0]);
+    expected.parameters[..4].copy_from_slice(&[0, 1, 0, 1]);
+    expected.clips[..3].copy_from_slice(&[1, 0, 1]);
+    assert_eq!(uses(&BRANCHED, &BRANCHED_NUMBERS), expected);
+}
+
+/// With every word of the plan replaced, its end cut off and numbers left out: refused as the start is, without marks.
+#[test]
+fn marks_of_damaged_figures() {
+    let put = |plan: &[u16], numbers: &[f32]| {
+        let figure = Slices { plan, numbers };
+        let (answer, marks) = calls::uses(figure);
+        assert_eq!(answer, calls::start(figure).0);
+        assert_eq!(answer.is_ok(), marks.number == 0);
+        assert_marks(plan, &marks);
+        answer.is_ok()
+    };
+    let mut accepted = 0;
+    for word in 0..BRANCHED.len() {
+        for value in (0..40).chain([254, 255, 256, 4096, 4097, 65534, 65535]) {
+            let mut plan = BRANCHED;
+            plan[word] = value;
+            accepted += usize::from(put(&plan, &BRANCHED_NUMBERS));
+        }
+        assert!(!put(&BRANCHED[..word], &BRANCHED_NUMBERS));
+    }
+    assert!(accepted > 100, "some are still figures: {accepted}");
+    for count in 0..BRANCHED_NUMBERS.len() {
+        assert!(!put(&BRANCHED, &BRANCHED_NUMBERS[..count]));
+    }
+    assert!(!put(&[&BRANCHED[..], &[0]].concat(), &BRANCHED_NUMBERS));
 }

@@ -4,6 +4,10 @@
 pub const PARAMETERS: usize = 32;
 /// How many floats its clip instances have: start, rate and offset of 64.
 pub const INSTANCE_FLOATS: usize = 3 * 64;
+/// The most states of a figure.
+pub const MAX_STATES: usize = 16;
+/// The most clips of a figure.
+pub const MAX_CLIPS: usize = 16;
 
 /// The player as the archive lays it out. Every content is taken: there are only floats and counts.
 ///
@@ -61,6 +65,22 @@ pub struct RawTextAnswer {
     pub numbers: usize,
 }
 
+/// What a figure can ever use: a byte, 0 or 1, for each state, parameter and clip that there can be. Where refused, and
+/// behind those that the figure has, all are 0.
+#[repr(C)]
+#[derive(Clone, Copy, Debug, PartialEq, Eq)]
+pub struct RawUses {
+    pub number: usize,
+    pub place: usize,
+    pub states: [u8; MAX_STATES],
+    pub parameters: [u8; PARAMETERS],
+    pub clips: [u8; MAX_CLIPS],
+}
+
+// The archive writes so many bytes where the caller has room for the answer.
+const _: () = assert!(std::mem::size_of::<RawUses>() == 80);
+const _: () = assert!(std::mem::align_of::<RawUses>() == 8);
+
 // Pointers are valid for the lengths beside them, not null, aligned, and none overlaps another.
 extern "C" {
     pub fn gentianlathe_start(
@@ -98,6 +118,13 @@ extern "C" {
         output: *mut f32,
         output_length: usize,
     ) -> RawAnswer;
+
+    pub fn gentianlathe_uses(
+        plan: *const u16,
+        plan_length: usize,
+        numbers: *const f32,
+        numbers_length: usize,
+    ) -> RawUses;
 
     pub fn gentianlathe_read_text(
         text: *const u8,

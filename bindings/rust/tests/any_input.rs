@@ -1,9 +1,10 @@
-//! Any bytes as text, any content of a player: every call answers, and a refused one changes nothing.
+//! Any bytes as text, any words as a plan, any content of a player: every call answers, and a refused one changes
+//! nothing.
 
 mod common;
 
 use common::{bits, example_texts, random_figure, random_parts, seen, Random};
-use gentianlathe::{most_numbers, most_words, read_text, Figure, Player};
+use gentianlathe::{most_numbers, most_words, read_text, uses, Figure, Player, ROOT};
 
 /// Reads a text in every way, and shows it if it is a figure's.
 fn put(text: &[u8], random: &mut Random) -> bool {
@@ -31,6 +32,7 @@ fn put(text: &[u8], random: &mut Random) -> bool {
                 .start()
                 .frame(&figure, random.double(), &mut output)
                 .expect("a fresh player");
+            assert!(figure.uses().states[figure.start().state()]);
             if written.is_ok() {
                 assert_eq!(figure.plan(), &plan_after[..kept_words]);
                 assert_eq!(bits(figure.numbers()), bits(&floats_after[..kept_numbers]));
@@ -112,6 +114,65 @@ fn texts_longer_than_the_program_takes() {
         Figure::from_text(&text).expect_err("one too many").place(),
         5 + 4096 + 1
     );
+}
+
+/// Starts a plan and asks what it can use: both answer alike. Whether it is a figure's.
+fn put_plan(plan: Vec<u16>, numbers: Vec<f32>) -> bool {
+    let asked = uses(&plan, &numbers);
+    let counts: Vec<u16> = plan.iter().take(4).copied().collect();
+    match (asked, Figure::new(plan, numbers)) {
+        (Ok(uses), Ok(figure)) => {
+            assert_eq!(figure.uses(), uses);
+            let lengths = [uses.clips.len(), uses.parameters.len(), uses.states.len()];
+            assert_eq!(counts[1..], lengths.map(|length| length as u16));
+            true
+        }
+        (asked, started) => {
+            assert_eq!(asked.err(), started.err());
+            false
+        }
+    }
+}
+
+/// One to three words replaced, taken out or put in, or the end cut off.
+fn damaged_plan(mut plan: Vec<u16>, random: &mut Random) -> Vec<u16> {
+    for _ in 0..random.between(1, 3) {
+        let place = random.below(plan.len().max(1));
+        let word = match random.below(3) {
+            0 => random.bits() as u16,
+            1 => *random.pick(&[0, 1, 2, 16, 17, 31, 32, 33, 64, 255, 400, 4096, ROOT]),
+            _ => random.below(4) as u16,
+        };
+        match random.below(6) {
+            _ if plan.is_empty() => plan.push(word),
+            0 => drop(plan.remove(place)),
+            1 => plan.insert(place, word),
+            2 => plan.truncate(place),
+            _ => plan[place] = word,
+        }
+    }
+    plan
+}
+
+#[test]
+fn any_plan_is_answered() {
+    let mut random = Random::new(6);
+    let mut figures = 0;
+    for _ in 0..6_000 {
+        let (plan, numbers) = random_figure(&mut random).into_parts();
+        let plan = damaged_plan(plan, &mut random);
+        figures += usize::from(put_plan(plan, numbers));
+    }
+    assert!(figures > 300, "some are still figures: {figures}");
+    for length in 0..1_000 {
+        let words = |random: &mut Random, bound: usize| -> Vec<u16> {
+            (0..length).map(|_| random.below(bound) as u16).collect()
+        };
+        let numbers: Vec<f32> = (0..random.below(40)).map(|_| random.float()).collect();
+        for bound in [3, 20, 1 << 16] {
+            put_plan(words(&mut random, bound), numbers.clone());
+        }
+    }
 }
 
 /// One random call; whether it was refused.
