@@ -1,7 +1,7 @@
 -- Document 02, Card 3: what the marks of a figure that a start accepts say. A state is marked exactly when a chain of at most S − 1 transitions leads to it
 -- from the initial one, and exactly when it is reachable as document 01 closes it; the same for parameters read and clips played.
 use Prim.Native.Nat.{ℕ, _-_}
-use mathlib.Core.Path.{_≡_, sym, _∙_}
+use mathlib.Core.Path.{_≡_}
 use mathlib.Core.Bool.{true}
 use mathlib.Core.List.{List}
 use Rattle.model.specs.Answers.{accepted}

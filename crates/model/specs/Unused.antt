@@ -7,7 +7,7 @@ use mathlib.Core.Bool.{Bool, true, false}
 use mathlib.Core.List.{List, [], _∷_, _++_}
 use lib.ListN.{replicate}
 use Rattle.model.specs.Answers.{accepted}
-use Rattle.model.specs.Plan.{maxClips, maxParameters, maxStates, Rate, Value, Duration, PoseFloat}
+use Rattle.model.specs.Plan.{maxParameters, Rate, Value, Duration, PoseFloat}
 use Rattle.model.specs.Check.{check}
 use Rattle.model.specs.Uses.{isMarked, reachedIn, stateMarks, parameterMarks, clipMarks}
 use Rattle.model.specs.Unseen.{Unseen}

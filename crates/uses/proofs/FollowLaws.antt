@@ -3,7 +3,7 @@ use Prim.Native.Nat.{ℕ, zero, suc, _+_, _-_, _≤_, _<_}
 use native.Mathlib.Omega.{arith}
 use mathlib.Core.Path.{_≡_, refl, sym, _∙_, subst}
 use mathlib.Core.Logic.{_⊎_, inl, inr}
-use mathlib.Core.Bool.{Bool, true, false, not, _&&_, _||_}
+use mathlib.Core.Bool.{Bool, true, false, not}
 use mathlib.Core.List.{List}
 use lib.ListN.{length, set, replicate, length-replicate}
 use lib.Seq.{ext-getD}
@@ -11,7 +11,7 @@ use lib.Dec.{eqb}
 use borrow.Author.Tests.{eqb-true, eq-eqb}
 use Rattle.model.specs.declared.Answer.the-variants.{Accepted}
 use Rattle.model.specs.Plan.{maxStates, maxParameters, maxClips, stateCount, initialState, targetState}
-use Rattle.model.specs.Uses.{marks, isMarked, leadsTo, reads, plays, stateMarks, parameterMarks, clipMarks, UsedWithin}
+use Rattle.model.specs.Uses.{isMarked, leadsTo, reads, plays, stateMarks, parameterMarks, clipMarks, UsedWithin}
 use Rattle.model.specs.Unseen.{Reachable, initial, target}
 use Rattle.model.specs.Laws.Marks.{or-cases, or-first, or-second, same-test, unlike, marks-length, count, one-more, all-counted}
 use Rattle.model.specs.Laws.Tests.{and-left, and-right, not-true}

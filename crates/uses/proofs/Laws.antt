@@ -1,10 +1,10 @@
 -- Steps of marking, over plain values. Assumes nothing.
-use Prim.Native.Nat.{ℕ, zero, suc, _+_, _≤_, _<_}
+use Prim.Native.Nat.{ℕ, zero, _+_, _≤_, _<_}
 use native.Mathlib.Omega.{arith}
 use native.Mathlib.Numerals.{add-one}
 use native.Mathlib.Decide.{ℕ-discrete}
-use mathlib.Core.Path.{_≡_, refl, sym, ap, _∙_, subst}
-use mathlib.Core.Bool.{Bool, true, false, not, _&&_, _||_}
+use mathlib.Core.Path.{_≡_, refl, sym, ap, _∙_}
+use mathlib.Core.Bool.{Bool, true, false, _||_}
 use mathlib.Core.List.{List}
 use lib.ListN.{length, set, length-set}
 use lib.Seq.{getD-set-same, getD-set-other}
@@ -17,7 +17,7 @@ use Rattle.model.specs.declared.Uses.{Uses}
 use Rattle.model.specs.Answers.{values, unlessRefused}
 use Rattle.model.specs.Run.{startVerdict}
 use Rattle.model.specs.Promises.{UsesFound}
-use Rattle.model.specs.Plan.{initialState, maxStates, maxParameters, maxClips, clipCount, stateCount, nodeCount, isClip, inputA, nodeParameter, transitionCount, conditionParameter, targetState}
+use Rattle.model.specs.Plan.{initialState, maxStates, maxParameters, maxClips, nodeCount, isClip, transitionCount, conditionParameter, targetState}
 use Rattle.model.specs.Uses.{marks, isMarked, anyBelow, leadsTo, nodeReads, blendsBy, asksFor, reads, nodePlays, plays}
 use Rattle.model.specs.Laws.State.{clip-below, parameter-below, condition-below, target-below}
 use Rattle.model.specs.Laws.Passed.{few-clips, few-parameters, few-states}

@@ -2,7 +2,7 @@
 use borrow.Author.Needs.{needs}
 use Prim.Native.Nat.{_-_, _≤_}
 use native.Mathlib.Omega.{arith}
-use Rattle.model.specs.Uses.{anyBelow, nodeReads, nodePlays, blendsBy, plays}
+use Rattle.model.specs.Uses.{anyBelow, nodeReads, nodePlays}
 use Rattle.uses.specs.Marking.{Marked}
 use Rattle.uses.proofs.Laws.{marked-start, marked-next, nodes-done}
 use Rattle.uses.proofs.mark_nodes.Statement.{statement}

@@ -1,9 +1,8 @@
 -- `uses::marks_of` meets its contract. Invariant: `Following`. It ends where no marked state is left to follow, or where all states were followed.
 -- Assumes nothing.
 use borrow.Author.Needs.{needs}
-use Prim.Native.Nat.{_-_, _≤_, _<_}
+use Prim.Native.Nat.{_-_, _<_}
 use native.Mathlib.Omega.{arith}
-use mathlib.Core.Path.{refl}
 use Rattle.model.specs.Plan.{stateCount}
 use Rattle.model.specs.Laws.Passed.{few-states, initial-below}
 use Rattle.layout.proofs.Laws.{states-found}

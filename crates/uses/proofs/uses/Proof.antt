@@ -1,6 +1,5 @@
 -- `uses::uses` meets its contract: a refusal of the check is handed on, else the marks are the figure's. Assumes nothing.
 use borrow.Author.Needs.{needs}
-use Rattle.model.specs.Uses.{marks}
 use Rattle.model.specs.Table.{tableTo}
 use Rattle.uses.proofs.Laws.{passed-found, handed-on, found}
 use Rattle.uses.proofs.uses.Statement.{statement}
