@@ -16,9 +16,9 @@ const USAGE: &str =
        compare random BINARY [--rows N] [--seed S]   compare BINARY with the Rust on random rows
        compare self-test BINARY             show that random finds wrong answers of BINARY
        compare print                        what gentianlathe must print for the text on standard input
-       compare record-texts EXAMPLES OUTDIR write each example's .expected, the recorded texts and their answers
+       compare record-texts EXAMPLES OUTDIR write each example's .expected and .uses, the recorded texts and their answers
        compare check-texts EXAMPLES STDIN STDOUT     hold these to what record-texts would write
-       compare random-texts BINARY [--cases N] [--seed S]   compare BINARY with the reference on random texts
+       compare random-texts BINARY [--cases N] [--seed S]   compare BINARY with the reference on random texts and what they use
        compare uses FIGURE                  what inspect uses must print for this file
        compare replay FIGURE CALLS          what replay must print for these two files
        compare record-lists OUTDIR          write the recorded figures with their call lists, and their answers

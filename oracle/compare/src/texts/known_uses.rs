@@ -233,6 +233,6 @@ pub fn refused() -> Vec<(Vec<u8>, (u8, usize))> {
             (5, 172),
         ),
         ((whole + "\n").into(), (11, 82)),
-        (vec![b'\n'; LONGEST + 1], (13, LONGEST)),
+        (vec![b'0'; LONGEST + 1], (13, LONGEST)),
     ]
 }

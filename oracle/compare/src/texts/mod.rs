@@ -14,7 +14,10 @@ pub mod printed;
 pub mod random;
 pub mod random_figure;
 mod random_joints;
+#[cfg(test)]
+mod random_tests;
 pub mod reader;
+mod shares;
 mod shrink;
 pub mod sparse_figure;
 pub mod spoil;

@@ -1,14 +1,16 @@
-//! Random texts, put to the program and to the reference.
+//! Random texts, put to the program and to the reference: what is printed for them, or what they use.
 
 use super::case::{answers, Case};
+use super::draft::Draft;
 use super::limits::{long_text, Long};
-use super::printed::{played, LONGEST};
+use super::printed::LONGEST;
 use super::random_figure::figure;
+use super::shares;
 use super::shrink;
+use super::sparse_figure::sparse;
 use super::spoil::spoiled;
 use crate::generator::Generator;
 use crate::program::output;
-use std::collections::BTreeMap;
 use std::io;
 use std::path::Path;
 
@@ -26,22 +28,37 @@ pub fn compare(subject: Subject, count: usize, seed: u64) -> io::Result<bool> {
     let cases = random_cases(count, seed);
     let found = mismatches(&cases, subject)?;
     let total = found.len();
-    if let Some(mismatch) = shrink::smallest(found) {
-        print_mismatch(&shrink::shrunk(mismatch, subject)?);
+    for mismatch in shrink::shown(found, subject)? {
+        print_mismatch(&mismatch);
     }
-    println!("compare: {}", Shares::of(&cases).sentence());
+    for sentence in shares::sentences(&cases) {
+        println!("compare: {sentence}");
+    }
     println!("compare: {count} texts, seed {seed}, {total} mismatches");
     Ok(total == 0)
 }
 
-fn random_cases(count: usize, seed: u64) -> Vec<Case> {
+pub(super) fn random_cases(count: usize, seed: u64) -> Vec<Case> {
     let mut generator = Generator::new(seed);
-    (0..count)
-        .map(|_| Case::text(random_text(&mut generator)))
-        .collect()
+    (0..count).map(|_| random_case(&mut generator)).collect()
 }
 
-fn random_text(generator: &mut Generator) -> Vec<u8> {
+fn random_case(generator: &mut Generator) -> Case {
+    match generator.below(3) {
+        0 => Case::uses(random_text(generator, figure_or_sparse)),
+        _ => Case::text(random_text(generator, figure)),
+    }
+}
+
+/// Of the first kind alone, few figures would have states that are not reachable.
+fn figure_or_sparse(generator: &mut Generator) -> Draft {
+    match generator.below(2) {
+        0 => figure(generator),
+        _ => sparse(generator),
+    }
+}
+
+fn random_text(generator: &mut Generator, figure: fn(&mut Generator) -> Draft) -> Vec<u8> {
     match generator.below(400) {
         0 => near_limit(generator),
         1..=3 => (0..generator.below(200))
@@ -112,117 +129,4 @@ fn print_mismatch(mismatch: &Mismatch) {
     print_lines("case", &mismatch.case.input());
     print_lines("reference", mismatch.expected.as_bytes());
     print_lines("program", &mismatch.actual);
-}
-
-/// How many cases there are, and how many of them get each refusal.
-struct Shares {
-    cases: usize,
-    refused: BTreeMap<u8, usize>,
-}
-
-impl Shares {
-    fn of(cases: &[Case]) -> Shares {
-        let mut refused = BTreeMap::new();
-        for case in cases {
-            if let Err(refusal) = played(&case.bytes) {
-                *refused.entry(refusal.number).or_default() += 1;
-            }
-        }
-        Shares {
-            cases: cases.len(),
-            refused,
-        }
-    }
-
-    fn refused_by(&self, numbers: &[u8]) -> usize {
-        numbers.iter().filter_map(|n| self.refused.get(n)).sum()
-    }
-
-    /// Those that the reader accepts.
-    fn read(&self) -> usize {
-        self.cases - self.refused_by(&[11, 13])
-    }
-
-    fn played(&self) -> usize {
-        self.read() - self.refused_by(&[1, 2, 3, 4, 5, 6, 7, 14])
-    }
-
-    fn sentence(&self) -> String {
-        let percent = |part: usize| 100.0 * part as f64 / self.cases.max(1) as f64;
-        let refusal = |(number, count): (&u8, &usize)| format!("{number} {count} times");
-        let refusals: Vec<String> = self.refused.iter().map(refusal).collect();
-        format!(
-            "{:.1} % accepted by the reader, {:.1} % played; refused: {}",
-            percent(self.read()),
-            percent(self.played()),
-            refusals.join(", ")
-        )
-    }
-}
-
-#[cfg(test)]
-mod tests {
-    use super::*;
-
-    const SEED: u64 = 5;
-
-    fn reference(cases: &[Case]) -> io::Result<Vec<Vec<u8>>> {
-        Ok(cases
-            .iter()
-            .map(|case| case.answer().into_bytes())
-            .collect())
-    }
-
-    #[test]
-    fn enough_texts_are_read_and_played() {
-        let shares = Shares::of(&random_cases(4000, SEED));
-        assert!(shares.read() * 3 >= shares.cases, "{}", shares.sentence());
-        assert!(shares.played() * 5 >= shares.cases, "{}", shares.sentence());
-        let numbers: Vec<u8> = shares.refused.into_keys().collect();
-        assert_eq!(numbers, [2, 3, 4, 5, 11, 13, 14]);
-    }
-
-    #[test]
-    fn cases_are_as_long_as_the_format_allows() {
-        let cases = random_cases(4000, SEED);
-        assert!(cases.iter().all(|case| case.bytes.len() <= LONGEST + 1));
-    }
-
-    /// How many mismatches there are in 400 cases with spoiled answers.
-    fn found(spoil: impl Fn(&[Case], &mut Vec<Vec<u8>>)) -> Option<usize> {
-        let subject = |cases: &[Case]| {
-            let mut answers = reference(cases)?;
-            spoil(cases, &mut answers);
-            Ok(answers)
-        };
-        let found = mismatches(&random_cases(400, SEED), &subject);
-        found.ok().map(|found| found.len())
-    }
-
-    #[test]
-    fn wrong_answers_are_found() {
-        assert_eq!(found(|_, _| {}), Some(0));
-        assert_eq!(found(|_, answers| answers[7].push(b'\n')), Some(1));
-        assert_eq!(found(|_, answers| drop(answers.pop())), Some(1));
-        assert_eq!(found(|_, answers| answers.truncate(10)), Some(1));
-        assert_eq!(found(|_, answers| answers.push(b"text,\n".to_vec())), None);
-    }
-
-    /// A program that minds no CR: the smallest text that shows it has nothing but one.
-    #[test]
-    fn the_shown_case_is_small() {
-        let careless = |cases: &[Case]| {
-            let mut answers = reference(cases)?;
-            for (case, answer) in cases.iter().zip(&mut answers) {
-                if case.bytes.contains(&b'\r') {
-                    answer.extend(b"joint,0\n");
-                }
-            }
-            Ok(answers)
-        };
-        let found = mismatches(&random_cases(400, SEED), &careless).unwrap();
-        let smallest = shrink::smallest(found).unwrap();
-        let shrunk = shrink::shrunk(smallest, &careless).unwrap();
-        assert_eq!(shrunk.case.bytes, b"\r");
-    }
 }

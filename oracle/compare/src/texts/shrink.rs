@@ -1,6 +1,6 @@
 //! Makes a mismatching text small for its reader.
 
-use super::case::Case;
+use super::case::{Case, Kind};
 use super::random::{mismatches, Mismatch, Subject};
 use std::io;
 
@@ -44,6 +44,7 @@ fn fewer_bytes(text: &[u8]) -> Vec<Vec<u8>> {
     texts
 }
 
+/// All of the case's kind: what shows a fault of one kind need not show it in another.
 fn smaller_cases(case: &Case) -> Vec<Case> {
     let text = &case.bytes;
     let mut texts = fewer_lines(text);
@@ -51,7 +52,11 @@ fn smaller_cases(case: &Case) -> Vec<Case> {
         texts.extend(fewer_bytes(text));
     }
     texts.retain(|other| size(other) < size(text));
-    texts.into_iter().map(Case::text).collect()
+    let kind = case.kind;
+    texts
+        .into_iter()
+        .map(|bytes| Case { kind, bytes })
+        .collect()
 }
 
 pub fn smallest(found: Vec<Mismatch>) -> Option<Mismatch> {
@@ -68,4 +73,12 @@ pub fn shrunk(mut mismatch: Mismatch, subject: Subject) -> io::Result<Mismatch> 
             None => return Ok(mismatch),
         }
     }
+}
+
+/// Of each kind that has mismatches, the smallest that is found.
+pub fn shown(found: Vec<Mismatch>, subject: Subject) -> io::Result<Vec<Mismatch>> {
+    let is_uses = |mismatch: &Mismatch| mismatch.case.kind == Kind::Uses;
+    let (uses, texts): (Vec<_>, Vec<_>) = found.into_iter().partition(is_uses);
+    let smallest = [texts, uses].into_iter().filter_map(smallest);
+    smallest.map(|one| shrunk(one, subject)).collect()
 }

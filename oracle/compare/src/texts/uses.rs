@@ -7,7 +7,7 @@ use super::limits::{long_text, pauses_text, Long};
 use super::printed::{read, LONGEST};
 use super::sparse_figure::sparse;
 use crate::generator::Generator;
-use crate::model::uses::uses;
+use crate::model::uses::{uses, Uses};
 use std::collections::BTreeMap;
 
 const SEED: u64 = 0x5f37_59df;
@@ -15,19 +15,27 @@ const SEED: u64 = 0x5f37_59df;
 /// So many figures by chance.
 const SPARSE: usize = 7;
 
+/// The marks of a text's figure, or the first refusal.
+pub fn marks(text: &[u8]) -> Result<Uses, Refusal> {
+    uses(&read(text)?)
+}
+
 pub fn printed(text: &[u8]) -> String {
-    match read(text).and_then(|figure| uses(&figure)) {
-        Ok(uses) => {
-            let [states, parameters, clips] = uses.kinds();
-            let lines = [
-                mark_lines("state", states),
-                mark_lines("parameter", parameters),
-                mark_lines("clip", clips),
-            ];
-            format!("ok\n{}", lines.concat())
-        }
+    match marks(text) {
+        Ok(uses) => shown(&uses),
         Err(Refusal { number, place }) => format!("refused,{number},{place}\n"),
     }
+}
+
+/// What is printed for these marks.
+pub fn shown(uses: &Uses) -> String {
+    let [states, parameters, clips] = uses.kinds();
+    let lines = [
+        mark_lines("state", states),
+        mark_lines("parameter", parameters),
+        mark_lines("clip", clips),
+    ];
+    format!("ok\n{}", lines.concat())
 }
 
 fn mark_lines(name: &str, marks: &[bool]) -> String {
