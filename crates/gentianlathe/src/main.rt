@@ -6,6 +6,7 @@ use libc::STDIN_FILENO;
 use libc::STDOUT_FILENO;
 use model::limits::MAX_TEXT;
 use printing::MAX_PRINTED;
+use program::Question;
 use program::answer;
 
 fn main() {
@@ -21,7 +22,7 @@ fn main() {
     }
     let count = input.count;
     let mut out = [0u8; MAX_PRINTED];
-    let length = answer(&text[..count], &mut out);
+    let length = answer(Question::Frame, &text[..count], &mut out);
     if !io::write_all(STDOUT_FILENO, &out[..length]) {
         io::write_all(
             STDERR_FILENO,

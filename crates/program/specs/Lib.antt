@@ -1,2 +1,2 @@
--- What a figure prints
-pub mod Figure
+-- What is asked of a figure
+pub mod Questions

@@ -1,6 +1,7 @@
 // Every one-byte damage of a text, with what the program would print.
 use libc::STDOUT_FILENO;
 use printing::MAX_PRINTED;
+use program::Question;
 use program::answer;
 use std::num::wrapping_add_u64;
 ghost use Prim.Native.Nat.{_<_, _≤_};
@@ -50,7 +51,7 @@ fn print_damage(text: &[u8], size: usize, i: usize, v: usize, always: bool, last
     requires { ⌜ size ≤ length (now text) ⌝ }
 {
     let mut out = [0u8; MAX_PRINTED];
-    let length = answer(&text[..size], &mut out);
+    let length = answer(Question::Frame, &text[..size], &mut out);
     let h = hash(&out[..length]);
     if always || h != last {
         print_change(i, v, &out[..length], h);

@@ -1,4 +1,4 @@
-// Puts texts to the program's work, as many as standard input has, and prints what the program would print for each.
+// Puts texts to the programs' work, as many as standard input has, and prints what the program would print for each.
 // README.md has the format; oracle/compare records texts and the expected answers.
 mod damage;
 
@@ -6,6 +6,7 @@ use damage::print_damaged;
 use libc::STDOUT_FILENO;
 use model::limits::MAX_TEXT;
 use printing::MAX_PRINTED;
+use program::Question;
 use program::answer;
 use test_io::read_front;
 use test_io::size_at;
@@ -24,14 +25,15 @@ const TEXT_SIZE: usize = MAX_TEXT + 1;
 // The longest text that is damaged.
 const MAX_DAMAGED: usize = 1024;
 
-fn print_answer(text: &[u8], size: usize)
+fn print_answer(question: Question, text: &[u8], size: usize)
     requires { ⌜ size ≤ length (now text) ⌝ }
 {
     let mut out = [0u8; MAX_PRINTED];
-    let length = answer(&text[..size], &mut out);
+    let length = answer(question, &text[..size], &mut out);
     io::write_all(STDOUT_FILENO, &out[..length]);
 }
 
+// A text for the program, or one whose uses are asked: their headers have the same form.
 fn run_text(header: [u8; HEADER_SIZE]) -> bool {
     let size = size_at(&header, 5);
     if TEXT_SIZE < size {
@@ -42,7 +44,11 @@ fn run_text(header: [u8; HEADER_SIZE]) -> bool {
         return false;
     }
     write_front(&header, SHORT_HEADER_SIZE);
-    print_answer(&text, size);
+    if header[0] == b'u' {
+        print_answer(Question::Uses, &text, size);
+    } else {
+        print_answer(Question::Frame, &text, size);
+    }
     true
 }
 

@@ -1,42 +1,10 @@
 // The program `replay FIGURE CALLS`: reads a figure's text and a list of calls from two files, and prints what each call
 // shows.
 use calls::MAX_LIST;
-use input::Input;
-use input::read_input;
+use input_file::read_file;
 use libc::STDERR_FILENO;
 use model::limits::MAX_TEXT;
 use replay_print::print_replay;
-ghost use Prim.Native.Nat.{_≤_};
-ghost use lib.ListN.{length};
-
-// The content of the file that argument i names. Where it cannot be read, standard error says why.
-fn read_file(i: usize, text: &mut [u8]) -> Input
-    ensures { λ r. ⌜ r .count ≤ length (now (text .entry)) ⌝ }
-{
-    let mut path = io::buffer();
-    let size = os::arg(i, &mut path);
-    if os::errno() != 0 {
-        os::fail(b"replay: an argument");
-        return Input {
-            count: 0,
-            failed: true,
-        };
-    }
-    let fd = os::open_read(&path[..size]);
-    if fd < 0 {
-        os::fail(&path[..size]);
-        return Input {
-            count: 0,
-            failed: true,
-        };
-    }
-    let input = read_input(fd, text);
-    if input.failed {
-        os::fail(&path[..size]);
-    }
-    libc::close(fd);
-    input
-}
 
 fn replay(figure: &[u8], calls: &[u8]) {
     if calls.len() > MAX_LIST {
@@ -64,12 +32,12 @@ fn main() {
         return;
     }
     let mut figure = [0u8; MAX_TEXT + 1];
-    let figure_read = read_file(1, &mut figure);
+    let figure_read = read_file(b"replay: an argument", 1, &mut figure);
     if figure_read.failed {
         return;
     }
     let mut calls = [0u8; MAX_LIST + 1];
-    let calls_read = read_file(2, &mut calls);
+    let calls_read = read_file(b"replay: an argument", 2, &mut calls);
     if calls_read.failed {
         return;
     }

@@ -7,9 +7,9 @@ use model::Player;
 use model::Refusal;
 use model::TextAnswer;
 use model::limits::MAX_NUMBERS;
-use model::limits::MAX_TEXT;
 use printing::REFUSAL_SIZE;
 use printing::put_refusal;
+use program_text::read_program_text;
 use replay_core::MAX_REPORT;
 use replay_core::begin;
 use replay_core::finish;
@@ -86,18 +86,11 @@ fn print_list(plan: &[u16], numbers: &[f32], calls: &[u8]) -> bool {
     print_calls(plan, numbers, calls, checked.lines, player)
 }
 
-// The slices hold the figure of any text that is not too long, as those of the program do. False where standard output
-// cannot be written.
+// False where standard output cannot be written.
 pub fn print_replay(figure: &[u8], calls: &[u8]) -> bool {
-    if figure.len() > MAX_TEXT {
-        return print_refusal(Refusal {
-            number: 13,
-            place: MAX_TEXT,
-        });
-    }
     let mut plan = [0u16; MAX_PLAN];
     let mut numbers = [0.0f32; MAX_NUMBERS];
-    let read = text::read(figure, &mut plan, &mut numbers);
+    let read = read_program_text(figure, &mut plan, &mut numbers);
     match read {
         TextAnswer::Refused(refusal) => print_refusal(refusal),
         TextAnswer::Accepted {

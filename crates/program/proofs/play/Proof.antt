@@ -6,8 +6,8 @@ use Rattle.program.proofs.Laws.{refusal-played, start-accepted, player-
 use Rattle.program.proofs.play.Statement.{statement}
 use Rattle.program.proofs.play.Tie as tie
 
-show-requires : tie.Need-show-requires
-show-requires c κs =
+first-frame-requires : tie.Need-first-frame-requires
+first-frame-requires c κs =
     let t = c .before .before in
     let b = t .before .before in
     let e = t .enum-told .given .1 in
@@ -24,7 +24,7 @@ returns-2 : tie.Need-returns-2
 returns-2 c =
     let s = c .before .before in
     let t = s .before .before .before in
-    rw (start-accepted _ _ _ (t .before .before .start .ensures) (t .enum-told .given .1)) (s .show .ensures)
+    rw (start-accepted _ _ _ (t .before .before .start .ensures) (t .enum-told .given .1)) (s .first-frame .ensures)
 
 pub play-spec : {M : Type 1} → statement M
 play-spec =
@@ -34,7 +34,7 @@ play-spec =
     (search needs)
     (search needs)
     (search needs)
-    show-requires
+    first-frame-requires
     (search needs)
     returns
     (search needs)

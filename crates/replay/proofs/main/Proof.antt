@@ -7,18 +7,18 @@ use borrow.Author.Needs.{needs}
 use Rattle.replay.proofs.main.Statement.{statement}
 use Rattle.replay.proofs.main.Tie as tie
 
-figure-inside : (c : tie.After-read-file) → c .read-file .result .count ≤ length (c .read-file .last .1 .0)
-figure-inside c = rw (c .read-file .kept .1 .0) (c .read-file .ensures)
+figure-inside : (c : tie.After-read-file) → c .read-file .result .count ≤ length (c .read-file .last .1 .1 .0)
+figure-inside c = rw (c .read-file .kept .1 .1 .0) (c .read-file .ensures)
 
-calls-inside : (c : tie.After-read-file2) → c .read-file2 .result .count ≤ length (c .read-file2 .last .1 .0)
-calls-inside c = rw (c .read-file2 .kept .1 .0) (c .read-file2 .ensures)
+calls-inside : (c : tie.After-read-file2) → c .read-file2 .result .count ≤ length (c .read-file2 .last .1 .1 .0)
+calls-inside c = rw (c .read-file2 .kept .1 .1 .0) (c .read-file2 .ensures)
 
 array-share-prefix-figure : tie.Need-array-share-prefix-figure
-array-share-prefix-figure c = figure-inside (c .before .before .before .before .before .before)
+array-share-prefix-figure c = figure-inside (c .before .before .before .before .before .before .before)
 
 slice-aggregate-replay : tie.Need-slice-aggregate-replay
 slice-aggregate-replay c =
-    sym (length-take-le _ _ (figure-inside (c .before .before .before .before .before .before .before)))
+    sym (length-take-le _ _ (figure-inside (c .before .before .before .before .before .before .before .before)))
 
 array-share-prefix-calls : tie.Need-array-share-prefix-calls
 array-share-prefix-calls c = calls-inside (c .before .before .before)
@@ -30,6 +30,8 @@ pub main-spec : {M : Type 1} → statement M
 main-spec =
     tie.close
     (tie.spec
+    (search needs)
+    (search needs)
     (search needs)
     (search needs)
     (search needs)

@@ -1,0 +1,2 @@
+-- What a program reads of a figure's text
+pub mod ProgramText
