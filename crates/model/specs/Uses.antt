@@ -36,10 +36,11 @@ nodeReads plan s i n = not (isClip plan s i) && eqb (nodeParameter plan s i) n
 unfoldable pub blendsBy : List ℕ → ℕ → ℕ → Bool
 blendsBy plan s n = anyBelow (nodeCount plan s) (λ i. nodeReads plan s i n)
 
--- a condition of state s does
+-- a condition of state s reads parameter n
 unfoldable pub asksFor : List ℕ → ℕ → ℕ → Bool
 asksFor plan s n = anyBelow (transitionCount plan s) (λ t. eqb (conditionParameter plan s t) n)
 
+-- state s 'reads' parameter n: by a lerp or additive node, or by a condition
 unfoldable pub reads : List ℕ → ℕ → ℕ → Bool
 reads plan s n = blendsBy plan s n || asksFor plan s n
 
@@ -47,6 +48,7 @@ reads plan s n = blendsBy plan s n || asksFor plan s n
 abbrev pub nodePlays : List ℕ → ℕ → ℕ → ℕ → Bool
 nodePlays plan s i c = isClip plan s i && eqb (inputA plan s i) c
 
+-- state s 'plays' clip c
 unfoldable pub plays : List ℕ → ℕ → ℕ → Bool
 plays plan s c = anyBelow (nodeCount plan s) (λ i. nodePlays plan s i c)
 
@@ -63,7 +65,7 @@ reachedIn plan (suc n) =
 unfoldable pub stateMarks : List ℕ → List Bool
 stateMarks plan = reachedIn plan (stateCount plan - 1)
 
--- what a marked state does by a test
+-- whether a marked state passes a test with k
 unfoldable pub byMarkedState : List ℕ → (ℕ → ℕ → Bool) → ℕ → Bool
 byMarkedState plan does k = anyBelow (stateCount plan) (λ s. isMarked (stateMarks plan) s && does s k)
 
@@ -88,7 +90,7 @@ pub record ChainWithin (plan : List ℕ) (most s : ℕ) : Type 0 where
   pub few : transitions ≤ most
   pub chain : Chain plan transitions s
 
--- so a state that this test holds of can be reached
+-- a state to which such a chain leads passes a test with k
 pub record UsedWithin (plan : List ℕ) (most : ℕ) (does : ℕ → ℕ → Bool) (k : ℕ) : Type 0 where
   pub state : ℕ
   pub within : ChainWithin plan most state
