@@ -1,80 +1,28 @@
--- What the check has seen of a node of a state: its words, its inputs, its slot. Assumes nothing.
-use Prim.Native.Nat.{ℕ, _≤_, _<_}
-use native.Mathlib.Omega.{arith}
-use mathlib.Core.Path.{_≡_, _∙_}
-use mathlib.Core.Bool.{true, false}
+-- What is known of a figure that can be played, and of the slot of a node. Assumes nothing.
+use Prim.Native.Nat.{ℕ, _<_}
+use mathlib.Core.Path.{_≡_}
+use mathlib.Core.Bool.{true}
 use mathlib.Core.List.{List}
 use lib.ListN.{length, getD}
 use lib.Ieee.{Float}
-use lib.Dec.{eqb}
-use borrow.Author.Tests.{eq-eqb, ne-eqb}
-use Rattle.model.specs.Plan.{maxParameters, maxNodes, maxClipNodes, clipCount, nodeCount, isClip, clipNode}
-use Rattle.model.specs.Laws.State.{a-earlier, b-earlier, clip-below, parameter-below, few-clip-nodes}
-use Rattle.model.specs.Laws.Passed.{few-parameters}
+use Rattle.model.specs.Plan.{maxClipNodes, isClip, clipNode}
+use Rattle.model.specs.Laws.State.{few-clip-nodes}
 use Rattle.layout.specs.declared.Layout.{Layout}
 use Rattle.layout.specs.declared.StateLayout.{StateLayout}
-use Rattle.layout.specs.declared.Node.{Node}
-use Rattle.layout.specs.Layout.{Passes, InPlan, nodeOf}
-use Rattle.layout.proofs.Laws.{here-ok, nodes-counted, nodes-few}
+use Rattle.layout.specs.Layout.{Passes, InPlan}
+use Rattle.layout.proofs.Laws.{here-ok}
+use Rattle.layout.proofs.NodeLaws.{node-counted}
 use Rattle.blend_tree.specs.Blocks.{Playable, Slots}
 
 pub passes : {plan : List ℕ} {numbers : List Float} {layout : Layout} → Playable plan numbers layout → Passes plan
 passes {plan} {numbers} ok = record { numbers = length numbers; passed = ok .passed }
 
--- ---- what a node's words tell
+-- ---- its slot
 
-module _ (plan : List ℕ) (s i : ℕ) {n : Node} (e : n ≡ nodeOf plan s i) where
-  pub clip-told : isClip plan s i ≡ eqb (n .kind) 0
-  unfolding nodeOf isClip
-  clip-told = rw e
+module _ {plan : List ℕ} {here : StateLayout} {i : ℕ} (ok : Passes plan) (inside : InPlan plan here) (below : i < here .nodes) {slots : List ℕ} (given : Slots plan (here .state) slots) where
+  pub slot-found : getD slots i 0 ≡ clipNode plan (here .state) i
+  slot-found = given .slot i (node-counted ok inside below)
 
-  pub is-clip : n .kind ≡ 0 → isClip plan s i ≡ true
-  is-clip h = clip-told ∙ eq-eqb _ _ h
-
-  pub no-clip : (n .kind ≡ 0 → ⊥) → isClip plan s i ≡ false
-  no-clip h = clip-told ∙ ne-eqb _ _ h
-
--- ---- node i of a state
-
-module _ {plan : List ℕ} {here : StateLayout} {i : ℕ} (ok : Passes plan) (inside : InPlan plan here) (below : i < here .nodes) where
-  counted : i < nodeCount plan (here .state)
-  counted = rw (nodes-counted inside) at below
-
-  pub node-small : i ≤ maxNodes
-  node-small = omega (arith, nodes-few inside ok)
-
-  module _ {slots : List ℕ} (given : Slots plan (here .state) slots) where
-    pub slot-found : getD slots i 0 ≡ clipNode plan (here .state) i
-    slot-found = given .slot i counted
-
-    -- a clip node's instance is one of the player's
-    pub slot-small : isClip plan (here .state) i ≡ true → getD slots i 0 < maxClipNodes
-    slot-small e = rw slot-found (few-clip-nodes plan (here .state) (here-ok inside ok) i counted e)
-
--- its words, as `node_at` gives them
-pub record NodeRead (plan : List ℕ) (here : StateLayout) (i : ℕ) (words : Node) : Type 0 where
-  pub passes : Passes plan
-  pub state : InPlan plan here
-  pub below : i < here .nodes
-  pub found : words ≡ nodeOf plan (here .state) i
-
-module _ {plan : List ℕ} {here : StateLayout} {i : ℕ} {words : Node} (r : NodeRead plan here i words) where
-  pub clip-inside : isClip plan (here .state) i ≡ true → words .a < clipCount plan
-  unfolding nodeOf
-  clip-inside e = rw (r .found) (clip-below plan (here .state) (here-ok (r .state) (r .passes)) i (counted (r .passes) (r .state) (r .below)) e)
-
-  module _ (e : isClip plan (here .state) i ≡ false) where
-    pub inputs-before : (words .a < i) × (words .b < i)
-    unfolding nodeOf
-    inputs-before =
-        let ok = here-ok (r .state) (r .passes) in
-        let h = counted (r .passes) (r .state) (r .below) in
-        rw (r .found) (a-earlier plan (here .state) ok i h e, b-earlier plan (here .state) ok i h e)
-
-    pub inputs-inside : (words .a < here .nodes) × (words .b < here .nodes)
-    inputs-inside = omega (arith, inputs-before, r .below)
-
-    pub parameter-small : words .parameter < maxParameters
-    unfolding nodeOf
-    parameter-small =
-        rw (r .found) (omega (arith, parameter-below plan (here .state) (here-ok (r .state) (r .passes)) i (counted (r .passes) (r .state) (r .below)) e, few-parameters plan (r .passes .numbers) (r .passes .passed)))
+  -- a clip node's instance is one of the player's
+  pub slot-small : isClip plan (here .state) i ≡ true → getD slots i 0 < maxClipNodes
+  slot-small e = rw slot-found (few-clip-nodes plan (here .state) (here-ok inside ok) i (node-counted ok inside below) e)

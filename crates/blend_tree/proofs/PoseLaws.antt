@@ -23,7 +23,8 @@ use Rattle.layout.proofs.Laws.{here-ok, nodes-counted}
 use Rattle.lanes.specs.Lanes.{blockSize, laneAt, LaneSet}
 use Rattle.lanes.proofs.Laws.{done-more, rest-less}
 use Rattle.blend_tree.specs.Blocks.{Filled, Playable, combined, poseOfNode}
-use Rattle.blend_tree.proofs.NodeLaws.{passes, NodeRead, is-clip, no-clip, inputs-before}
+use Rattle.layout.proofs.NodeLaws.{NodeRead, is-clip, no-clip, inputs-before}
+use Rattle.blend_tree.proofs.NodeLaws.{passes}
 
 -- ---- a loop that puts f of x's lane and y's into x, lane by lane
 

@@ -22,7 +22,7 @@ use Rattle.layout.specs.declared.StateLayout.{StateLayout}
 use Rattle.layout.specs.declared.Node.{Node}
 use Rattle.layout.specs.Layout.{Passes, InPlan, nodeOf}
 use Rattle.layout.proofs.Laws.{here-ok, nodes-counted}
-use Rattle.blend_tree.proofs.NodeLaws.{is-clip, no-clip}
+use Rattle.layout.proofs.NodeLaws.{is-clip, no-clip}
 
 module _ (plan : List ℕ) (s i : ℕ) {n : Node} (e : n ≡ nodeOf plan s i) where
   lerp-told : isLerp plan s i ≡ eqb (n .kind) 1

@@ -10,7 +10,7 @@ use Rattle.model.specs.declared.Refusal.{Refusal}
 use Rattle.model.specs.declared.Uses.{Uses}
 use Rattle.model.specs.declared.LineKind.the-variants.{State, Clip}
 use Rattle.model.specs.Answers.{accepted, values, unlessRefused}
-use Rattle.model.specs.Plan.{maxStates, maxParameters, maxClips, stateCountAt, parameterCountAt, clipCountAt, word}
+use Rattle.model.specs.Plan.{maxStates, maxParameters, maxClips}
 use Rattle.model.specs.Plan.{stateCount, parameterCount, clipCount}
 use Rattle.model.specs.Run.{startVerdict}
 use Rattle.model.specs.Text.{lineFeed, name}

@@ -25,7 +25,8 @@ use Rattle.layout.specs.declared.Node.{Node}
 use Rattle.layout.specs.Layout.{InPlan, nodeOf}
 use Rattle.layout.proofs.Laws.{here-ok, nodes-counted, clips-counted}
 use Rattle.blend_tree.specs.Blocks.{Playable}
-use Rattle.blend_tree.proofs.NodeLaws.{passes, clip-told, NodeRead}
+use Rattle.layout.proofs.NodeLaws.{clip-told, NodeRead}
+use Rattle.blend_tree.proofs.NodeLaws.{passes}
 use Rattle.blend_tree.proofs.SynchronizeLaws.{other-untouched}
 use Rattle.blend_tree.proofs.PoseLaws.{of-clip, root-pose}
 use Rattle.skeleton.specs.Buffer.{stored, jointsWritten}

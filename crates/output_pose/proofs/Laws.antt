@@ -16,7 +16,7 @@ use Rattle.model.specs.declared.Transition.the-variants.{Idle, Running}
 use Rattle.model.specs.Pose.{lerp}
 use Rattle.model.specs.Plan.{jointCount, outputAt}
 use Rattle.model.specs.Table.{tableTo}
-use Rattle.model.specs.Tree.{statePose, synchronize}
+use Rattle.model.specs.Tree.{synchronize}
 use Rattle.model.specs.Controller.{isTargetBelow, transitionFactor, currentInstances, targetInstances, instancesIn, currentPose, targetPose, poseIn}
 use Rattle.model.specs.Skeleton.{jointMatrices, flat, written}
 use Rattle.layout.specs.declared.Layout.{Layout}

@@ -10,23 +10,12 @@ use Rattle.model.specs.declared.Transition.{Transition}
 use Rattle.model.specs.declared.Transition.the-variants.{Idle, Running}
 use Rattle.model.specs.declared.Winner.{Winner}
 use Rattle.model.specs.declared.Winner.the-variants.{At, Nothing}
-use Rattle.model.specs.Plan.{maxParameters}
 use Rattle.model.specs.Controller.{conditionHolds, firstPassing, winner, startedBy, isEnded, stepFrom}
-use Rattle.model.specs.Laws.State.{condition-below}
 use Rattle.model.specs.Laws.Steps.{winner-had}
-use Rattle.model.specs.Laws.Passed.{few-parameters}
 use Rattle.layout.specs.declared.StateLayout.{StateLayout}
-use Rattle.layout.specs.declared.Condition.{Condition}
-use Rattle.layout.specs.Layout.{Passes, InPlan, conditionOf}
-use Rattle.layout.proofs.Laws.{here-ok, transitions-counted}
+use Rattle.layout.specs.Layout.{InPlan}
+use Rattle.layout.proofs.Laws.{transitions-counted}
 use Rattle.transitions.specs.Step.{StepMade}
-
--- the parameter that a condition names is one of the player's
-pub parameter-there : {plan : List ℕ} {here : StateLayout} {t : ℕ} {n : Condition} → Passes plan → InPlan plan here → t < here .transitions → n ≡ conditionOf plan (here .state) t → n .parameter < maxParameters
-unfolding conditionOf
-parameter-there {plan} {here} {t} ok inside h e =
-    rw e
-    (omega (arith, condition-below plan (here .state) (here-ok inside ok) t (omega (arith, transitions-counted inside)), few-parameters plan (ok .numbers) (ok .passed)))
 
 -- ---- the search, at transition t of n
 

@@ -19,14 +19,14 @@ use Rattle.model.specs.Run.{startVerdict}
 use Rattle.model.specs.Promises.{UsesFound}
 use Rattle.model.specs.Plan.{initialState, maxStates, maxParameters, maxClips, nodeCount, isClip, transitionCount, conditionParameter, targetState}
 use Rattle.model.specs.Uses.{marks, isMarked, anyBelow, leadsTo, nodeReads, blendsBy, asksFor, reads, nodePlays, plays}
-use Rattle.model.specs.Laws.State.{clip-below, parameter-below, condition-below, target-below}
-use Rattle.model.specs.Laws.Passed.{few-clips, few-parameters, few-states}
+use Rattle.model.specs.Laws.Passed.{few-clips, few-states}
 use Rattle.layout.specs.declared.Layout.{Layout}
 use Rattle.layout.specs.declared.StateLayout.{StateLayout}
 use Rattle.layout.specs.declared.Node.{Node}
 use Rattle.layout.specs.declared.Condition.{Condition}
 use Rattle.layout.specs.Layout.{Passes, InPlan, layoutOf, stateLayout, nodeOf, conditionOf}
-use Rattle.layout.proofs.Laws.{same-state, here-ok, nodes-counted, transitions-counted}
+use Rattle.layout.proofs.Laws.{same-state, nodes-counted, transitions-counted}
+use Rattle.layout.proofs.NodeLaws.{NodeRead, is-clip, no-clip, clip-inside, parameter-small, parameter-there, target-there}
 use Rattle.plan.specs.declared.Checked.{Checked}
 use Rattle.plan.specs.declared.Checked.the-variants as checked
 use Rattle.plan.specs.Checked.{verdict, layoutIn, PlanChecked}
@@ -99,62 +99,46 @@ module _ (plan : List ℕ) (numbers : List Float) (k : Checked) (done : PlanChec
 
 -- ---- a node
 
-module _ {plan : List ℕ} {here : StateLayout} {i : ℕ} {n : Node} (ok : Passes plan) (inside : InPlan plan here) (below : i < here .nodes) (e : n ≡ nodeOf plan (here .state) i) where
-  counted : i < nodeCount plan (here .state)
-  counted = rw (nodes-counted inside) at below
+module _ {plan : List ℕ} {here : StateLayout} {i : ℕ} {words : Node} (n : NodeRead plan here i words) where
+  module _ (zero : words .kind ≡ 0) where
+    clip : isClip plan (here .state) i ≡ true
+    clip = is-clip plan (here .state) i (n .found) zero
 
-  told : isClip plan (here .state) i ≡ eqb (n .kind) 0
-  unfolding nodeOf isClip
-  told = rw e
-
-  module _ (zero : n .kind ≡ 0) where
-    is-clip : isClip plan (here .state) i ≡ true
-    is-clip = told ∙ eq-eqb _ _ zero
-
-    pub clip-inside : n .a < maxClips
-    unfolding nodeOf
-    clip-inside = rw e (omega (arith, clip-below plan (here .state) (here-ok inside ok) i counted is-clip, few-clips plan (ok .numbers) (ok .passed)))
+    pub clip-small : words .a < maxClips
+    clip-small = omega (arith, clip-inside n clip, few-clips plan (n .passes .numbers) (n .passes .passed))
 
     pub clip-marked : (parameters clips : List Bool) → maxClips ≤ length clips
-        → Marked (nodeReads plan (here .state) i) parameters parameters × Marked (nodePlays plan (here .state) i) clips (set clips (n .a) true)
+        → Marked (nodeReads plan (here .state) i) parameters parameters × Marked (nodePlays plan (here .state) i) clips (set clips (words .a) true)
     unfolding nodeOf
     clip-marked parameters clips room =
-        (marked-none parameters (λ k. rw is-clip refl), marked-as (λ k. rw (is-clip, e) refl) (marked-one clips (n .a) (omega (arith, clip-inside))))
+        (marked-none parameters (λ k. rw clip refl), marked-as (λ k. rw (clip, n .found) refl) (marked-one clips (words .a) (omega (arith, clip-small))))
 
-  module _ (other : n .kind ≡ 0 → ⊥) where
-    no-clip : isClip plan (here .state) i ≡ false
-    no-clip = told ∙ ne-eqb _ _ other
+  module _ (other : words .kind ≡ 0 → ⊥) where
+    blend : isClip plan (here .state) i ≡ false
+    blend = no-clip plan (here .state) i (n .found) other
 
-    pub parameter-inside : n .parameter < maxParameters
-    unfolding nodeOf
-    parameter-inside = rw e (omega (arith, parameter-below plan (here .state) (here-ok inside ok) i counted no-clip, few-parameters plan (ok .numbers) (ok .passed)))
+    pub blend-small : words .parameter < maxParameters
+    blend-small = parameter-small n blend
 
     pub parameter-marked : (parameters clips : List Bool) → maxParameters ≤ length parameters
-        → Marked (nodeReads plan (here .state) i) parameters (set parameters (n .parameter) true) × Marked (nodePlays plan (here .state) i) clips clips
+        → Marked (nodeReads plan (here .state) i) parameters (set parameters (words .parameter) true) × Marked (nodePlays plan (here .state) i) clips clips
     unfolding nodeOf
     parameter-marked parameters clips room =
-        (marked-as (λ k. rw (no-clip, e) refl) (marked-one parameters (n .parameter) (omega (arith, parameter-inside))), marked-none clips (λ k. rw no-clip refl))
+        (marked-as (λ k. rw (blend, n .found) refl) (marked-one parameters (words .parameter) (omega (arith, blend-small))), marked-none clips (λ k. rw blend refl))
 
 -- ---- a transition
 
 module _ {plan : List ℕ} {here : StateLayout} {t : ℕ} {n : Condition} (ok : Passes plan) (inside : InPlan plan here) (below : t < here .transitions) (e : n ≡ conditionOf plan (here .state) t) where
-  pub condition-inside : n .parameter < maxParameters
-  unfolding conditionOf
-  condition-inside =
-      rw e (omega (arith, condition-below plan (here .state) (here-ok inside ok) t (omega (arith, transitions-counted inside)), few-parameters plan (ok .numbers) (ok .passed)))
-
-  pub target-inside : n .target < maxStates
-  unfolding conditionOf
-  target-inside =
-      rw e (omega (arith, target-below plan (here .state) (here-ok inside ok) t (omega (arith, transitions-counted inside)), few-states plan (ok .numbers) (ok .passed)))
+  pub target-small : n .target < maxStates
+  target-small = omega (arith, target-there ok inside below e, few-states plan (ok .numbers) (ok .passed))
 
   pub condition-marked : (parameters : List Bool) → maxParameters ≤ length parameters → Marked (eqb (conditionParameter plan (here .state) t)) parameters (set parameters (n .parameter) true)
   unfolding conditionOf
-  condition-marked parameters room = marked-as (λ k. rw e refl) (marked-one parameters (n .parameter) (omega (arith, condition-inside)))
+  condition-marked parameters room = marked-as (λ k. rw e refl) (marked-one parameters (n .parameter) (omega (arith, parameter-there ok inside below e)))
 
   pub target-marked : (states : List Bool) → maxStates ≤ length states → Marked (eqb (targetState plan (here .state) t)) states (set states (n .target) true)
   unfolding conditionOf
-  target-marked states room = marked-as (λ k. rw e refl) (marked-one states (n .target) (omega (arith, target-inside)))
+  target-marked states room = marked-as (λ k. rw e refl) (marked-one states (n .target) (omega (arith, target-small)))
 
 -- ---- all of a state
 

@@ -1,5 +1,5 @@
 -- `inspect_uses::put_marks` meets its contract: after k turns the first k lines are written. Assumes nothing.
-use Prim.Native.Nat.{_+_, _*_, _-_, _≤_}
+use Prim.Native.Nat.{_*_, _-_, _≤_}
 use mathlib.Core.Path.{_≡_}
 use native.Mathlib.Omega.{arith}
 use Rattle.model.specs.Program.{joined}

@@ -4,7 +4,8 @@ use native.Mathlib.Omega.{arith}
 use mathlib.Core.Path.{_≡_, sym, _∙_}
 use Rattle.model.specs.Plan.{jointCount}
 use Rattle.layout.proofs.Laws.{joints-found}
-use Rattle.blend_tree.proofs.NodeLaws.{passes, clip-inside}
+use Rattle.layout.proofs.NodeLaws.{clip-inside}
+use Rattle.blend_tree.proofs.NodeLaws.{passes}
 use Rattle.output_pose.proofs.JointLaws.{only-clip, instance-there, only-pose, joint-shown}
 use Rattle.output_pose.proofs.show_joint.Statement.{statement}
 use Rattle.output_pose.proofs.show_joint.Tie as tie

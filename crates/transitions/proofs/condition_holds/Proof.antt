@@ -4,7 +4,7 @@ use Prim.Native.Nat.{_<_}
 use native.Mathlib.Omega.{arith}
 use Rattle.model.specs.Plan.{maxParameters}
 use Rattle.layout.specs.Layout.{conditionOf, numbersOf}
-use Rattle.transitions.proofs.Laws.{parameter-there}
+use Rattle.layout.proofs.NodeLaws.{parameter-there}
 use Rattle.transitions.proofs.condition_holds.Statement.{statement}
 use Rattle.transitions.proofs.condition_holds.Tie as tie
 

@@ -6,7 +6,8 @@ use lib.Dec.{eqb}
 use Rattle.model.specs.Plan.{conditionParameter, targetState}
 use Rattle.model.specs.Uses.{anyBelow}
 use Rattle.uses.specs.Marking.{Marked}
-use Rattle.uses.proofs.Laws.{marked-start, marked-next, condition-inside, target-inside, condition-marked, target-marked, transitions-done}
+use Rattle.layout.proofs.NodeLaws.{parameter-there}
+use Rattle.uses.proofs.Laws.{marked-start, marked-next, target-small, condition-marked, target-marked, transitions-done}
 use Rattle.uses.proofs.mark_transitions.Statement.{statement}
 use Rattle.uses.proofs.mark_transitions.Tie as tie
 
@@ -26,13 +27,13 @@ slice-write-parameters : tie.Need-slice-write-parameters Inv-loop μ-loop
 slice-write-parameters c =
     let l = c .before .before .before in
     let p = l .before .before .before .before .pre in
-    omega (arith, condition-inside (p .0) (p .1) (c .before .if1 .taken) (c .condition-at .ensures), l .loop .inv .1 .long, p .3)
+    omega (arith, parameter-there (p .0) (p .1) (c .before .if1 .taken) (c .condition-at .ensures), l .loop .inv .1 .long, p .3)
 
 slice-write-states : tie.Need-slice-write-states Inv-loop μ-loop
 slice-write-states c =
     let l = c .before .before .before in
     let p = l .before .before .before .before .pre in
-    omega (arith, target-inside (p .0) (p .1) (c .before .if1 .taken) (c .condition-at .ensures), l .loop .inv .0 .long, p .2)
+    omega (arith, target-small (p .0) (p .1) (c .before .if1 .taken) (c .condition-at .ensures), l .loop .inv .0 .long, p .2)
 
 loop-again : tie.Need-loop-again Inv-loop μ-loop
 loop-again c =

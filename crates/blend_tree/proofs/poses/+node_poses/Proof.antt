@@ -11,7 +11,8 @@ use Rattle.model.specs.Plan.{maxParameters, maxNodes, maxClipNodes}
 use Rattle.model.specs.Clips.{instanceAt}
 use Rattle.animation.proofs.instance_at.Reads as instance-at-reads
 use Rattle.layout.proofs.node_at.Reads as node-at-reads
-use Rattle.blend_tree.proofs.NodeLaws.{passes, node-small, slot-found, slot-small, NodeRead, is-clip, no-clip, clip-inside, inputs-before, parameter-small}
+use Rattle.layout.proofs.NodeLaws.{node-small, NodeRead, is-clip, no-clip, clip-inside, inputs-before, parameter-small}
+use Rattle.blend_tree.proofs.NodeLaws.{passes, slot-found, slot-small}
 use Rattle.blend_tree.proofs.PoseLaws.{of-clip, of-inputs}
 use Rattle.blend_tree.proofs.poses.clip_poses.Reads as clip-poses-reads
 use Rattle.blend_tree.proofs.poses.combine_all.Reads as combine-all-reads

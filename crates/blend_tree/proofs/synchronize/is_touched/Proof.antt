@@ -4,7 +4,7 @@ use borrow.Author.Tests.{not-true, not-false}
 use Prim.Native.Nat.{_<_}
 use native.Mathlib.Omega.{arith}
 use mathlib.Core.Path.{_≡_, sym, _∙_}
-use Rattle.blend_tree.proofs.NodeLaws.{inputs-inside}
+use Rattle.layout.proofs.NodeLaws.{inputs-inside}
 use Rattle.blend_tree.proofs.SynchronizeLaws.{lerp-no-clip, other-untouched, lerp-touched}
 use Rattle.blend_tree.proofs.synchronize.is_touched.Statement.{statement}
 use Rattle.blend_tree.proofs.synchronize.is_touched.Tie as tie

@@ -4,7 +4,7 @@ use mathlib.Core.Path.{_∙_, ap}
 use Prim.Native.Nat.{_+_}
 use native.Mathlib.Omega.{arith}
 use Rattle.model.specs.Laws.ClipNodes.{clip-counts, blend-counts-not}
-use Rattle.blend_tree.proofs.NodeLaws.{is-clip, no-clip}
+use Rattle.layout.proofs.NodeLaws.{is-clip, no-clip}
 use Rattle.blend_tree.proofs.synchronize.next_clip_node.Statement.{statement}
 use Rattle.blend_tree.proofs.synchronize.next_clip_node.Tie as tie
 

@@ -3,7 +3,8 @@ use borrow.Author.Needs.{needs}
 use Rattle.model.specs.Clips.{duration}
 use Rattle.model.specs.Tree.{nodeLength}
 use Rattle.layout.specs.Layout.{nodeOf}
-use Rattle.blend_tree.proofs.NodeLaws.{passes, NodeRead, clip-inside}
+use Rattle.layout.proofs.NodeLaws.{NodeRead, clip-inside}
+use Rattle.blend_tree.proofs.NodeLaws.{passes}
 use Rattle.blend_tree.proofs.synchronize.node_length.Statement.{statement}
 use Rattle.blend_tree.proofs.synchronize.node_length.Tie as tie
 

@@ -1,7 +1,7 @@
 -- `blend_tree::synchronize::plays_samples` meets its contract: a clip node names a clip that the plan has. Assumes nothing.
 use borrow.Author.Needs.{needs}
 use mathlib.Core.Path.{sym}
-use Rattle.blend_tree.proofs.NodeLaws.{is-clip, clip-inside}
+use Rattle.layout.proofs.NodeLaws.{is-clip, clip-inside}
 use Rattle.blend_tree.proofs.SynchronizeLaws.{plays-nothing, plays-told}
 use Rattle.blend_tree.proofs.synchronize.plays_samples.Statement.{statement}
 use Rattle.blend_tree.proofs.synchronize.plays_samples.Tie as tie

@@ -7,7 +7,8 @@ use mathlib.Core.Bool.{true}
 use native.Mathlib.Omega.{arith}
 use Rattle.model.specs.Plan.{maxParameters, isClip}
 use Rattle.model.specs.Tree.{isTouched, synchronizeNode}
-use Rattle.blend_tree.proofs.NodeLaws.{passes, node-small, slot-found, slot-small, NodeRead, inputs-inside, parameter-small}
+use Rattle.layout.proofs.NodeLaws.{node-small, NodeRead, inputs-inside, parameter-small}
+use Rattle.blend_tree.proofs.NodeLaws.{passes, slot-found, slot-small}
 use Rattle.blend_tree.proofs.SynchronizeLaws.{touched-inputs, both-synchronized}
 use Rattle.blend_tree.proofs.synchronize.synchronize_node.Statement.{statement}
 use Rattle.blend_tree.proofs.synchronize.synchronize_node.Tie as tie
