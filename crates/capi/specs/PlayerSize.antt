@@ -1,10 +1,11 @@
--- The bytes of a host's player. They come from the struct's own type, by the memory that every proof here speaks of: each field begins at the next multiple
+-- The bytes of a host's player, and of the answer about what a figure can use. They come from the structs' own types, by the memory that every proof here speaks of: each field begins at the next multiple
 -- of its alignment, and the whole is a multiple of the largest. Definitions only.
 use Prim.Native.Nat.{ℕ}
 use mathlib.Core.Option.{Option, none, some}
 use mir.Syntax.{Ty}
 use prog.Memory.{size, fieldOf}
 use Rattle.host_player.proofs.HostPlayer.Laws.{mir as player}
+use Rattle.host_uses.proofs.HostUses.Laws.{mir as uses}
 
 abbrev pub playerBytes : ℕ
 playerBytes = size player
@@ -16,3 +17,10 @@ placeIn (some (field, place)) = place
 
 abbrev pub fieldPlace : ℕ → ℕ
 fieldPlace k = placeIn (fieldOf player k)
+
+-- the same of what hosts are told by `gentianlathe_uses`
+abbrev pub usesBytes : ℕ
+usesBytes = size uses
+
+abbrev pub usesPlace : ℕ → ℕ
+usesPlace k = placeIn (fieldOf uses k)

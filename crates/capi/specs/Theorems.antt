@@ -14,7 +14,7 @@ use Rattle.round_trip.specs.Theorems.{words-most}
 use Rattle.host_player.specs.declared.HostTextAnswer.{HostTextAnswer}
 use Rattle.host_player.specs.HostPlayer.{hostTextAnswer}
 use Rattle.host_player.specs.HostPromises.{HostTextRead}
-use Rattle.capi.specs.PlayerSize.{playerBytes, fieldPlace}
+use Rattle.capi.specs.PlayerSize.{playerBytes, fieldPlace, usesBytes, usesPlace}
 
 module _ (text : List ℕ) (w n : ℕ) (words-room : maxPlan ≤ w) (numbers-room : length text / numberBytes ≤ n) where
   never-short : (x : Reading) → readFigure text ≡ x → hostTextAnswer (textVerdict x w n) .number ≡ 12 → ⊥
@@ -34,3 +34,7 @@ room-enough text planOld planNew numbersOld numbersNew r done w n e =
 -- the layout that the header of C and the crate of Rust declare: running, the duration, the parameters, the instances, and the end
 pub player-laid-out : (fieldPlace 3 ≡ 24) × (fieldPlace 6 ≡ 48) × (fieldPlace 7 ≡ 52) × (fieldPlace 8 ≡ 180) × (playerBytes ≡ 952)
 player-laid-out = (refl, refl, refl, refl, refl)
+
+-- and of what a figure can use: place, the marks of states, parameters and clips, and the end
+pub uses-laid-out : (usesPlace 1 ≡ 8) × (usesPlace 2 ≡ 16) × (usesPlace 3 ≡ 32) × (usesPlace 4 ≡ 64) × (usesBytes ≡ 80)
+uses-laid-out = (refl, refl, refl, refl, refl)

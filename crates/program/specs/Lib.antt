@@ -1,2 +1,3 @@
--- What is asked of a figure
+-- What is asked of a figure, and which question the program of document 01 is
 pub mod Questions
+pub mod Theorems
