@@ -9,7 +9,8 @@ use lib.Dec.{T}
 use lib.IntN.{pos}
 use lib.Ieee.{Float, fin, binary32, lt, fits, ofInt, toUnsigned}
 use Rattle.model.specs.Numbers.{floorIndex, ceilingIndex}
-use Rattle.float.proofs.Index.{floor-is, ceiling-small, ceiling-large}
+use Rattle.model.specs.Laws.Wholes.{floor-is}
+use Rattle.float.proofs.Index.{ceiling-small, ceiling-large}
 
 -- a ceiling that is not the floor is the index after it
 pub ceiling-after : (x : Float) → T (fits binary32 x) → (ceilingIndex x ≡ floorIndex x → ⊥) → ceilingIndex x ≡ suc (floorIndex x)

@@ -28,14 +28,7 @@ from-power : (m : ℕ) (e : ℤ) (j : ℕ) → lt (fin false m e) (fin false 1 (
 unfolding lt
 from-power m e j h = le-div-iff-mul-le (down-pos e) .1 (simp (mul-one, one-mul) at (ltb-false (m * up e * 1) (1 * 2 ^ j * down e) h))
 
--- ---- `floor_index`: truncation toward zero is the floor from 0 on, and below both have the index 0
-
-pub floor-is : (x : Float) → floorIndex x ≡ toUnsigned 64 x
-unfolding floorIndex floor toUnsigned
-floor-is nan = refl
-floor-is (inf s) = refl
-floor-is (fin true m e) = whole-index true (m * up e / down e + carry (m * up e) (down e))
-floor-is (fin false m e) = whole-index false (m * up e / down e + 0) ∙ rw add-zero
+-- ---- `floor_index`
 
 -- not above -1
 pub index-low : (x : Float) → lt (fin true 1 (pos 0)) x ≡ false → toUnsigned 64 x ≡ 0

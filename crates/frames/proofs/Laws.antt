@@ -4,8 +4,9 @@ use mathlib.Core.Path.{_≡_, refl, sym, ap, subst, _∙_}
 use mathlib.Core.Bool.{Bool, true, false}
 use mathlib.Core.List.{List}
 use lib.ListN.{length}
+use lib.Dec.{ltb}
 use lib.Ieee.{Float}
-use borrow.Author.Tests.{le-ltb, lt-ltb, ltb-true, le-leb, lt-leb, leb-true}
+use borrow.Author.Tests.{ltb-true, le-leb, lt-leb, leb-true}
 use Rattle.model.specs.declared.Answer.{Answer}
 use Rattle.model.specs.declared.Answer.the-variants as answer
 use Rattle.model.specs.declared.FrameKind.{FrameKind}
@@ -14,10 +15,11 @@ use Rattle.model.specs.Answers.{Verdict, accepted, refused, values, _then_, req
 use Rattle.model.specs.declared.Refusal.{Refusal}
 use Rattle.model.specs.Plan.{jointCount, stateCount, outputAt}
 use Rattle.model.specs.Check.{check}
-use Rattle.model.specs.Controller.{withState, withTransition, withInstances, isTargetBelow, frameVerdict, nowAt, stepFrom, elapsed}
+use Rattle.model.specs.Controller.{withState, withTransition, withInstances, isTargetBelow, hasStates, frameVerdict, nowAt, stepFrom, elapsed}
 use Rattle.model.specs.Run.{framePlayer, frameMatrices}
 use Rattle.model.specs.Promises.{Framed}
 use Rattle.model.specs.Laws.Answers.{then-left, then-right, require-true}
+use Rattle.model.specs.Laws.Tests.{and-left, and-right}
 use Rattle.model.specs.Laws.Passed.{state-passed}
 use Rattle.model.specs.Laws.Steps.{step-target-below, step-state-below}
 use Rattle.layout.specs.declared.Layout.{Layout}
@@ -73,54 +75,49 @@ module _ (plan : List ℕ) (numbers : List Float) (p : Player) (ext : Float) (r 
 
 module _ (plan : List ℕ) (numbers : List Float) (p : Player) (n : ℕ) where
   -- an early refusal is the verdict
-  refused-first : (k p r : ℕ) (v w x y : Verdict) → v ≡ refused k p r → v then w then x then y ≡ refused k p r
+  refused-first : (k p r : ℕ) (v w x : Verdict) → v ≡ refused k p r → v then w then x ≡ refused k p r
   unfolding _then_
-  refused-first k p r v w x y e = rw e
+  refused-first k p r v w x e = rw e
 
   pub check-refuses : (k m r : ℕ) → check plan (length numbers) ≡ refused k m r → frameVerdict plan numbers p n ≡ refused k m r
   unfolding frameVerdict
-  check-refuses k m r e = refused-first k m r _ _ _ _ e
+  check-refuses k m r e = refused-first k m r _ _ _ e
 
   module _ (e : frameVerdict plan numbers p n ≡ accepted) where
     pub frame-passed : check plan (length numbers) ≡ accepted
     unfolding frameVerdict
-    frame-passed = then-left _ _ (then-left _ _ (then-left _ _ e))
+    frame-passed = then-left _ _ (then-left _ _ e)
+
+    frame-states : hasStates (stateCount plan) (p .state) (p .transition) ≡ true
+    unfolding frameVerdict
+    frame-states = require-true _ _ _ (then-right _ _ (then-left _ _ e))
 
     pub frame-state : p .state < stateCount plan
-    unfolding frameVerdict
-    frame-state = ltb-true _ _ (require-true _ _ _ (then-right _ _ (then-left _ _ (then-left _ _ e))))
+    frame-state = ltb-true _ _ (and-left _ _ frame-states)
 
     pub frame-target : isTargetBelow (stateCount plan) (p .transition) ≡ true
-    unfolding frameVerdict
-    frame-target = require-true _ _ _ (then-right _ _ (then-left _ _ e))
+    frame-target = and-right (ltb (p .state) (stateCount plan)) _ frame-states
 
     pub frame-fits : outputAt (jointCount plan) ≤ n
     unfolding frameVerdict
     frame-fits = leb-true _ _ (require-true _ _ _ (then-right _ _ e))
 
 -- a plan that passed, by its layout: the tests that follow, each past the ones before it
-module _ (l : Layout) (parts : Parts) (n : ℕ) (a : Answer) where
-  pub state-refuses : l .states ≤ parts .state → values a ≡ refused 9 0 0 → FrameAnswered l parts n a
+module _ (l : Layout) (parts : Parts) (n : ℕ) (a : Answer) (has : Bool) (told : has ≡ hasStates (l .states) (parts .state) (parts .transition)) where
+  pub player-refuses : has ≡ false → values a ≡ refused 9 0 0 → FrameAnswered l parts n a
   unfolding frameVerdict _then_ require
-  state-refuses h e =
-      record { answer = λ plan numbers _ _ ok. e ∙ sym (rw (ok .passed, ← states-found plan (ok .found), le-ltb (parts .state) (l .states) h)) }
+  player-refuses f e = record { answer = λ plan numbers _ _ ok. e ∙ sym (rw (ok .passed, ← states-found plan (ok .found), ← told, f)) }
 
-  module _ (h : parts .state < l .states) (below : Bool) (told : below ≡ isTargetBelow (l .states) (parts .transition)) where
-    pub target-refuses : below ≡ false → values a ≡ refused 9 0 0 → FrameAnswered l parts n a
+  module _ (t : has ≡ true) (at : ℕ) (end : at ≡ outputAt (l .joints)) where
+    pub output-refuses : n < at → values a ≡ refused 10 0 0 → FrameAnswered l parts n a
     unfolding frameVerdict _then_ require
-    target-refuses f e =
-        record { answer = λ plan numbers _ _ ok. e ∙ sym (rw (ok .passed, ← states-found plan (ok .found), lt-ltb (parts .state) (l .states) h, ← told, f)) }
+    output-refuses f e =
+        record { answer = λ plan numbers _ _ ok. e ∙ sym (rw (ok .passed, ← states-found plan (ok .found), ← told, t, ← joints-found plan (ok .found), ← end, lt-leb at n f)) }
 
-    module _ (t : below ≡ true) (at : ℕ) (end : at ≡ outputAt (l .joints)) where
-      pub output-refuses : n < at → values a ≡ refused 10 0 0 → FrameAnswered l parts n a
-      unfolding frameVerdict _then_ require
-      output-refuses f e =
-          record { answer = λ plan numbers _ _ ok. e ∙ sym (rw (ok .passed, ← states-found plan (ok .found), lt-ltb (parts .state) (l .states) h, ← told, t, ← joints-found plan (ok .found), ← end, lt-leb at n f)) }
-
-      pub nothing-refuses : at ≤ n → values a ≡ accepted → FrameAnswered l parts n a
-      unfolding frameVerdict _then_ require
-      nothing-refuses f e =
-          record { answer = λ plan numbers _ _ ok. e ∙ sym (rw (ok .passed, ← states-found plan (ok .found), lt-ltb (parts .state) (l .states) h, ← told, t, ← joints-found plan (ok .found), ← end, le-leb at n f)) }
+    pub nothing-refuses : at ≤ n → values a ≡ accepted → FrameAnswered l parts n a
+    unfolding frameVerdict _then_ require
+    nothing-refuses f e =
+        record { answer = λ plan numbers _ _ ok. e ∙ sym (rw (ok .passed, ← states-found plan (ok .found), ← told, t, ← joints-found plan (ok .found), ← end, le-leb at n f)) }
 
 -- the promise of a refused frame of either kind, with the parts as they were, and of an accepted one
 module _ (kind : FrameKind) (plan : List ℕ) (numbers : List Float) (parts : Parts) (parameters instances : List Float) (ext : Float) where

@@ -24,7 +24,7 @@ ghost use mathlib.Core.Bool.{true};
 ghost use Prim.Native.Nat.{_<_, _≤_};
 ghost use Rattle.model.specs.declared.Transition.the-variants as Transition;
 ghost use Rattle.model.specs.Plan.{maxJoints, stateCount};
-ghost use Rattle.model.specs.Controller.{isTargetBelow};
+ghost use Rattle.model.specs.Controller.{isTargetBelow, hasStates};
 ghost use Rattle.layout.specs.Layout.{layoutOf, stateLayout, Passes, InPlan};
 ghost use Rattle.blend_tree.specs.Blocks.{Playable};
 ghost use Rattle.skeleton.specs.Buffer.{HasRoom};
@@ -56,6 +56,13 @@ fn is_target_below(n: usize, transition: Transition) -> bool
             duration: _,
         } => target < n,
     }
+}
+
+// Whether a player's state and running target are among so many states: else refusal 9.
+pub fn has_states(states: usize, state: usize, transition: Transition) -> bool
+    ensures { λ r. ⌜ r ≡ hasStates states state transition ⌝ }
+{
+    (state < states) & is_target_below(states, transition)
 }
 
 // The layout of a state, which is often the one at hand.
@@ -161,11 +168,8 @@ fn frame_answer(layout: Layout, parts: Parts, length: usize) -> Answer
     requires { ⌜ layout .joints ≤ maxJoints ⌝ }
     ensures { λ r. ⌜ FrameAnswered layout parts length r ⌝ }
 {
-    if parts.state >= layout.states {
-        return refused(9, 0);
-    }
     let transition = parts.transition;
-    if !is_target_below(layout.states, transition) {
+    if !has_states(layout.states, parts.state, transition) {
         return refused(9, 0);
     }
     if length < output_at(layout.joints) {

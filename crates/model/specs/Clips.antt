@@ -58,7 +58,11 @@ module _ (plan : List ℕ) (numbers : List Float) where
   unfoldable pub duration : ℕ → Float
   duration c = indexFloat (sampleCount plan c) /₃₂ number plan numbers (Rate c)
 
-  -- at a 'position' of clip c, joint j's pose. Card 2: of a clip without samples 'the identity pose .. whatever its ending'
+  -- 'position' of clip c at a local time
+  abbrev pub positionOf : ℕ → Float → Float
+  positionOf c local = local *₃₂ number plan numbers (Rate c)
+
+  -- at a position of clip c, joint j's pose. Card 2: of a clip without samples 'the identity pose .. whatever its ending'
   unfoldable pub poseAt : ℕ → ℕ → Float → Pose
   poseAt c j position =
       let n = sampleCount plan c in
@@ -67,4 +71,4 @@ module _ (plan : List ℕ) (numbers : List Float) where
 
   -- at a 'local time'
   unfoldable pub clipPose : ℕ → ℕ → Float → Pose
-  clipPose c j local = poseAt c j (local *₃₂ number plan numbers (Rate c))
+  clipPose c j local = poseAt c j (positionOf c local)

@@ -1,6 +1,6 @@
 -- Document 01, "Controller (controller.rs)", but for step 3. Definitions only.
 use Prim.Native.Nat.{ℕ, zero, suc}
-use mathlib.Core.Bool.{Bool, true, cond}
+use mathlib.Core.Bool.{Bool, true, cond, _&&_}
 use mathlib.Core.List.{List}
 use lib.ListN.{set, length, replicate}
 use lib.Dec.{leb, ltb, eqb}
@@ -69,19 +69,23 @@ parameterSet p n v = withParameters p (set (p .parameters) n v)
 abbrev pub setVerdict : ℕ → Verdict
 setVerdict n = require (ltb n maxParameters) 8 0
 
--- ---- a frame's refusals: the start's, then 9 for a state that the plan does not have, then 10 for the output's length
+-- ---- the refusals of what plays a figure by a player: the start's, then 9 for a 'current state or running target not below S'; a frame's then 10, for the
+-- output's length
 
 -- an idle player has no 'running target' to be wrong
 unfoldable pub isTargetBelow : ℕ → Transition → Bool
 isTargetBelow n Idle = true
 isTargetBelow n (Running start target duration) = ltb target n
 
+-- of n states
+abbrev pub hasStates : ℕ → ℕ → Transition → Bool
+hasStates n state transition = ltb state n && isTargetBelow n transition
+
+abbrev pub playVerdict : List ℕ → List Float → Player → Verdict
+playVerdict plan numbers p = check plan (length numbers) then require (hasStates (stateCount plan) (p .state) (p .transition)) 9 0
+
 unfoldable pub frameVerdict : List ℕ → List Float → Player → ℕ → Verdict
-frameVerdict plan numbers p outputLength =
-    check plan (length numbers) then
-    require (ltb (p .state) (stateCount plan)) 9 0 then
-    require (isTargetBelow (stateCount plan) (p .transition)) 9 0 then
-    require (leb (outputAt (jointCount plan)) outputLength) 10 0
+frameVerdict plan numbers p outputLength = playVerdict plan numbers p then require (leb (outputAt (jointCount plan)) outputLength) 10 0
 
 -- ---- step 1
 

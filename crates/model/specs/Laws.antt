@@ -12,6 +12,7 @@ pub mod State
 pub mod Trees
 pub mod Clips
 pub mod Touched
+pub mod Loops
 pub mod Passed
 pub mod Reached
 pub mod Steps

@@ -10,6 +10,7 @@ pub mod Table
 pub mod Tree
 pub mod Controller
 pub mod Skeleton
+pub mod Loops
 pub mod Run
 pub mod Uses
 pub mod Unseen
@@ -31,3 +32,4 @@ pub mod Pages
 pub mod ExactlyOne
 pub mod Chains
 pub mod Unused
+pub mod Repeats

@@ -1,6 +1,6 @@
 -- What each public call ensures, as one record a call with an equation for everything that it returns or writes. Definitions only.
 -- The calls' contracts cite these records, and so do the traces of demand 3.
-use Prim.Native.Nat.{ℕ}
+use Prim.Native.Nat.{ℕ, _+_, _*_, _<_}
 use mathlib.Core.Path.{_≡_}
 use mathlib.Core.Bool.{false}
 use mathlib.Core.List.{List}
@@ -11,13 +11,15 @@ use Rattle.model.specs.declared.Outcome.{Outcome}
 use Rattle.model.specs.declared.TextAnswer.{TextAnswer}
 use Rattle.model.specs.declared.FrameKind.{FrameKind}
 use Rattle.model.specs.declared.Uses.{Uses}
-use Rattle.model.specs.Answers.{values, unlessRefused}
+use Rattle.model.specs.declared.LoopCount.{LoopCount}
+use Rattle.model.specs.Answers.{accepted, values, unlessRefused}
 use Rattle.model.specs.Plan.{maxClips, maxParameters, maxStates}
 use Rattle.model.specs.Controller.{withSpeed, updated, parameterSet, setVerdict, frameVerdict}
 use Rattle.model.specs.Skeleton.{written}
 use Rattle.model.specs.Text.{readFigure, textValues, textVerdict, whenAccepted, overwritten, readWords, readFloats}
 use Rattle.model.specs.Run.{startVerdict, startPlayer, framePlayer, frameMatrices}
 use Rattle.model.specs.Uses.{marks, stateMarks, parameterMarks, clipMarks}
+use Rattle.model.specs.Loops.{loopsVerdict, loopLength, playedIndex, wholeLoops, loopRest}
 
 pub record Started (plan : List ℕ) (numbers : List Float) (r : Outcome) : Type 0 where
   pub answer : values (r .answer) ≡ startVerdict plan numbers
@@ -45,6 +47,15 @@ pub record UsesFound (plan : List ℕ) (numbers : List Float) (r : Uses) : Type 
   pub states : r .states ≡ unlessRefused (startVerdict plan numbers) (stateMarks plan) (marks maxStates (λ k. false))
   pub parameters : r .parameters ≡ unlessRefused (startVerdict plan numbers) (parameterMarks plan) (marks maxParameters (λ k. false))
   pub clips : r .clips ≡ unlessRefused (startVerdict plan numbers) (clipMarks plan) (marks maxClips (λ k. false))
+
+-- loops and rest, both 0 where the question is refused. The player is handed in only
+pub record LoopsCounted (plan : List ℕ) (numbers : List Float) (p : Player) (s n : ℕ) (time : Float) (r : LoopCount) : Type 0 where
+  pub answer : values (r .answer) ≡ loopsVerdict plan numbers p s n
+  pub loops : r .loops ≡ unlessRefused (loopsVerdict plan numbers p s n) (wholeLoops plan numbers p s n time) 0
+  pub rest : r .rest ≡ unlessRefused (loopsVerdict plan numbers p s n) (loopRest plan numbers p s n time) 0
+  -- 'the position's floor as an index equals loops times N plus rest, with rest below N', by which alone an accepted question's two numbers are known
+  pub equation : loopsVerdict plan numbers p s n ≡ accepted → playedIndex plan numbers p s n time ≡ r .loops * loopLength plan s n + r .rest
+  pub bound : loopsVerdict plan numbers p s n ≡ accepted → r .rest < loopLength plan s n
 
 -- Both slices, given as what they hold when the call begins and when it returns
 pub record TextRead (text planOld planNew : List ℕ) (numbersOld numbersNew : List Float) (r : TextAnswer) : Type 0 where

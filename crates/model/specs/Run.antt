@@ -13,6 +13,7 @@ use Rattle.model.specs.Plan.{jointCount}
 use Rattle.model.specs.Check.{check}
 use Rattle.model.specs.Controller.{blank, withSpeed, fresh, updated, parameterSet, setVerdict, frameVerdict, nowAt, stepped, elapsed, synchronized, jointPose}
 use Rattle.model.specs.Skeleton.{jointMatrices}
+use Rattle.model.specs.Loops.{loopsVerdict, wholeLoops, loopRest}
 
 -- ---- start: the answer and the player
 
@@ -42,18 +43,22 @@ pub data Call : Type 0 where
   Set : ℕ → Float → Call
   -- ext, and the output's length
   Frame : FrameKind → Float → ℕ → Call
+  -- document 02, Card 7, a question: state, node and time
+  Loops : ℕ → ℕ → Float → Call
 
 unfoldable pub callVerdict : List ℕ → List Float → Player → Call → Verdict
 callVerdict plan numbers p (Update delta) = accepted
 callVerdict plan numbers p (Speed v) = accepted
 callVerdict plan numbers p (Set n v) = setVerdict n
 callVerdict plan numbers p (Frame kind ext outputLength) = frameVerdict plan numbers p outputLength
+callVerdict plan numbers p (Loops s n time) = loopsVerdict plan numbers p s n
 
 unfoldable pub changed : List ℕ → List Float → Player → Call → Player
 changed plan numbers p (Update delta) = updated p delta
 changed plan numbers p (Speed v) = withSpeed p v
 changed plan numbers p (Set n v) = parameterSet p n v
 changed plan numbers p (Frame kind ext outputLength) = framePlayer plan numbers p ext
+changed plan numbers p (Loops s n time) = p
 
 -- a refused call leaves the player
 unfoldable pub after : List ℕ → List Float → Player → Call → Player
@@ -65,6 +70,15 @@ chosenFloats plan numbers chosen p (Update delta) = []
 chosenFloats plan numbers chosen p (Speed v) = []
 chosenFloats plan numbers chosen p (Set n v) = []
 chosenFloats plan numbers chosen p (Frame kind ext outputLength) = map (λ j. floats (getD (frameMatrices plan numbers p ext kind) j identityMatrix)) chosen
+chosenFloats plan numbers chosen p (Loops s n time) = []
+
+-- what a question that is accepted is told: loops and rest. The chosen joints do not see it: it may be about a state that is not reachable
+unfoldable pub told : List ℕ → List Float → Player → Call → List ℕ
+told plan numbers p (Update delta) = []
+told plan numbers p (Speed v) = []
+told plan numbers p (Set n v) = []
+told plan numbers p (Frame kind ext outputLength) = []
+told plan numbers p (Loops s n time) = wholeLoops plan numbers p s n time ∷ loopRest plan numbers p s n time ∷ []
 
 -- ---- the run by definition
 

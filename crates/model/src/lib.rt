@@ -126,6 +126,14 @@ pub struct Uses {
     pub clips: [bool; MAX_CLIPS],
 }
 
+// How many whole loops a clip node's clip has played, and how many samples of the next (document 02, Card 7). Both are 0 where
+// the question is refused.
+pub struct LoopCount {
+    pub answer: Answer,
+    pub loops: usize,
+    pub rest: usize,
+}
+
 // ---- text
 
 // The seven kinds of line.

@@ -13,21 +13,26 @@ use lib.Seq.{getD-set-other}
 use lib.Ieee.{Float, nan}
 use Rattle.model.specs.declared.Player.{Player}
 use Rattle.model.specs.declared.Outcome.{Outcome}
+use Rattle.model.specs.declared.LoopCount.{LoopCount}
 use Rattle.model.specs.Numbers.{0f}
-use Rattle.model.specs.Answers.{accepted, unlessRefused}
+use Rattle.model.specs.declared.Answer.{Answer}
+use Rattle.model.specs.Answers.{accepted, values, unlessRefused}
 use Rattle.model.specs.Plan.{byteRoot, jointCount, isRoot, Rate, Value, Duration, PoseFloat}
 use Rattle.model.specs.Check.{check}
 use Rattle.model.specs.Controller.{withSpeed, updated, parameterSet, setVerdict, frameVerdict}
 use Rattle.model.specs.Skeleton.{written}
-use Rattle.model.specs.Run.{startVerdict, startPlayer, framePlayer, frameMatrices, Call, Update, Speed, Set, Frame}
+use Rattle.model.specs.Loops.{loopsVerdict, wholeLoops, loopRest}
+use Rattle.model.specs.Run.{startVerdict, startPlayer, framePlayer, frameMatrices, Call, Update, Speed, Set, Frame, Loops}
 use Rattle.model.specs.Uses.{isMarked, parameterMarks}
+use Rattle.model.specs.Promises.{LoopsCounted}
+use Rattle.model.specs.Repeats.{equation, bound}
 use Rattle.model.specs.Bench.{withParents, fourHundred}
 use Rattle.model.specs.Unused.{twoStates, first-only, unused-unseen}
 use Rattle.model.specs.Laws.Opened.{check-opened}
 use Rattle.model.specs.Laws.Marks.{unlike}
 use Rattle.noninterference.specs.Alike.{Closed, UnseenAt, AlikeNumbers, AlikeCall, sets}
-use Rattle.noninterference.specs.Laws.Answers.{Answerable, require-answerable, check-answerable, frame-answerable}
-use Rattle.noninterference.specs.Trace.{Event, Trace, end, update, setSpeed, setParameter, frame, Session, calls}
+use Rattle.noninterference.specs.Laws.Answers.{Answerable, require-answerable, check-answerable, frame-answerable, loops-answerable}
+use Rattle.noninterference.specs.Trace.{Event, Trace, end, update, setSpeed, setParameter, frame, askLoops, Session, calls}
 
 -- ---- sessions
 
@@ -35,6 +40,20 @@ pub record Performed (plan : List ℕ) (numbers : List Float) (p : Player) (cs :
   pub events : List Event
   pub trace : Trace plan numbers p events
   pub called : calls events ≡ cs
+
+-- the definition's own numbers keep the promise
+told-counted : (plan : List ℕ) (numbers : List Float) (p : Player) (s n : ℕ) (time : Float) {a : Answer} → values a ≡ loopsVerdict plan numbers p s n
+    → let v = loopsVerdict plan numbers p s n in
+    LoopsCounted plan numbers p s n time (record { answer = a; loops = unlessRefused v (wholeLoops plan numbers p s n time) 0; rest = unlessRefused v (loopRest plan numbers p s n time) 0 })
+unfolding unlessRefused
+told-counted plan numbers p s n time e =
+    record {
+      answer = e;
+      loops = refl;
+      rest = refl;
+      equation = λ f. rw f (equation plan numbers p s n time f);
+      bound = λ f. rw f (bound plan numbers p s n time f);
+    }
 
 module _ (plan : List ℕ) (numbers : List Float) where
   pub perform : (p : Player) (cs : List Call) → Performed plan numbers p cs
@@ -61,6 +80,13 @@ module _ (plan : List ℕ) (numbers : List Float) where
         trace = frame {r = r} kind ext old (unlessRefused v (written plan (frameMatrices plan numbers p ext kind) old) old) (record { answer = x .is; player = refl; output = refl }) (f .trace);
         called = ap₂ (λ (n : ℕ) (l : List Call). Frame kind ext n ∷ l) (length-replicate len 0f) (f .called);
       }
+
+  perform p (Loops s n time ∷ cs) =
+      let v = loopsVerdict plan numbers p s n in
+      let x : Answerable v = loops-answerable plan numbers p s n in
+      let r : LoopCount = record { answer = x .answer; loops = unlessRefused v (wholeLoops plan numbers p s n time) 0; rest = unlessRefused v (loopRest plan numbers p s n time) 0 } in
+      let f : Performed plan numbers p cs = perform p cs in
+      record { events = _; trace = askLoops {r = r} s n time (told-counted plan numbers p s n time (x .is)) (f .trace); called = ap (λ (l : List Call). Loops s n time ∷ l) (f .called) }
 
   -- and a session from every accepted start
   pub every-session : startVerdict plan numbers ≡ accepted → (cs : List Call) → Session plan numbers (perform (startPlayer plan numbers) cs .events)

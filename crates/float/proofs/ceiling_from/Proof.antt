@@ -10,7 +10,8 @@ use lib.Dec.{le→leb}
 use lib.IntN.{pos}
 use lib.Ieee.{binary32, ofBits, lt, ofInt, inFloat, toUnsigned}
 use Rattle.model.specs.Numbers.{ceilingIndex}
-use Rattle.float.proofs.Index.{floor-is, small-index, ceiling-small, ceiling-large}
+use Rattle.model.specs.Laws.Wholes.{floor-is}
+use Rattle.float.proofs.Index.{small-index, ceiling-small, ceiling-large}
 use Rattle.float.proofs.ceiling_from.Statement.{statement}
 use Rattle.float.proofs.ceiling_from.Tie as tie
 

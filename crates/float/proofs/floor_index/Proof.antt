@@ -2,7 +2,8 @@
 use mathlib.Core.Path.{sym, _∙_}
 use denote.Floats.{passes}
 use lib.Ieee.{ofBits, neg}
-use Rattle.float.proofs.Index.{floor-is, index-low, index-high}
+use Rattle.model.specs.Laws.Wholes.{floor-is}
+use Rattle.float.proofs.Index.{index-low, index-high}
 use Rattle.float.proofs.floor_index.Statement.{statement}
 use Rattle.float.proofs.floor_index.Tie as tie
 

@@ -1,5 +1,5 @@
 -- Whole numbers as floats: their index, and a float less itself.
-use Prim.Native.Nat.{ℕ, zero, suc, _+_, _*_, _^_, _≤_, _<_, min}
+use Prim.Native.Nat.{ℕ, zero, suc, _+_, _*_, _/_, _^_, _≤_, _<_, min}
 use native.Mathlib.Nat.{add-zero, mul-one, mul-div-cancel, mul-mod-left, mul-pos, le-refl, le-of-eq, lt-irrefl, lt-of-lt-of-le, zero-lt-suc, sub-self, zero-mul}
 use native.Mathlib.Omega.{arith}
 use mathlib.Core.Path.{_≡_, refl, sym, _∙_}
@@ -12,7 +12,7 @@ use lib.Ieee.{Float, nan, inf, fin, Format, prec, emax, low, binary32, up, down,
 use lib.Ieee.Fits.{up-pos, down-pos, sub-fits}
 use lib.Ieee.Exact.{HasValue, odd-sign, round-exact}
 use lib.Ieee.Back.{round-whole, whole-unique}
-use Rattle.model.specs.Numbers.{whole, floor, ceiling, floorIndex, ceilingIndex, indexFloat}
+use Rattle.model.specs.Numbers.{carry, whole, floor, ceiling, floorIndex, ceilingIndex, indexFloat}
 
 -- the last index
 abbrev pub most : ℕ
@@ -27,6 +27,14 @@ whole-index s n = go (odd (size n) s n 0 0) (odd-sign (size n) s n 0 0)
     go nan h = absurd h
     go (inf t) h = absurd h
     go (fin t m e) h = rw (h .0, simp mul-one at (h .1), mul-div-cancel n (down-pos e))
+
+-- truncation toward zero is the floor from 0 on, and below both have the index 0
+pub floor-is : (x : Float) → floorIndex x ≡ toUnsigned 64 x
+unfolding floorIndex floor toUnsigned
+floor-is nan = refl
+floor-is (inf s) = refl
+floor-is (fin true m e) = whole-index true (m * up e / down e + carry (m * up e) (down e))
+floor-is (fin false m e) = whole-index false (m * up e / down e + 0) ∙ rw add-zero
 
 -- of a float whose value is n
 pub floor-of : (v : Float) (n : ℕ) → n ≤ most → HasValue v false n 1 → floorIndex v ≡ n

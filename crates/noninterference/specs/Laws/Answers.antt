@@ -11,6 +11,7 @@ use Rattle.model.specs.declared.Player.{Player}
 use Rattle.model.specs.Answers.{Verdict, accepted, refused, values, _then_, each, require}
 use Rattle.model.specs.Check.{wordIs, check, checkHeader, checkParent, checkClip, checkNode, checkTransition, checkState}
 use Rattle.model.specs.Controller.{frameVerdict}
+use Rattle.model.specs.Loops.{loopsVerdict}
 
 pub record Answerable (v : Verdict) : Type 0 where
   pub answer : Answer
@@ -85,4 +86,8 @@ module _ (plan : List ℕ) where
 
   pub frame-answerable : (numbers : List Float) (p : Player) (n : ℕ) → Answerable (frameVerdict plan numbers p n)
   unfolding frameVerdict
-  frame-answerable numbers p n = then-answerable (then-answerable (then-answerable (check-answerable (length numbers)) (require-answerable _ _ _)) (require-answerable _ _ _)) (require-answerable _ _ _)
+  frame-answerable numbers p n = then-answerable (then-answerable (check-answerable (length numbers)) (require-answerable _ _ _)) (require-answerable _ _ _)
+
+  pub loops-answerable : (numbers : List Float) (p : Player) (s n : ℕ) → Answerable (loopsVerdict plan numbers p s n)
+  unfolding loopsVerdict
+  loops-answerable numbers p s n = then-answerable (then-answerable (then-answerable (check-answerable (length numbers)) (require-answerable _ _ _)) (require-answerable _ _ _)) (require-answerable _ _ _)

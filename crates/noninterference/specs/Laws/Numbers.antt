@@ -42,7 +42,7 @@ module _ (plan chosen : List ℕ) (a b : List Float) (ok : check plan (length a)
   below-clips : {c : ℕ} → Played plan c → c < clipCount plan
   below-clips p = played-below plan (length a) ok p
 
-  rate-same : {c : ℕ} → Played plan c → number plan a (Rate c) ≡ number plan b (Rate c)
+  pub rate-same : {c : ℕ} → Played plan c → number plan a (Rate c) ≡ number plan b (Rate c)
   rate-same {c} p = seen-same (Rate c) (below-clips p) (unlike (played-marked plan (length a) ok p))
 
   pub duration-same : {c : ℕ} → Played plan c → duration plan a c ≡ duration plan b c

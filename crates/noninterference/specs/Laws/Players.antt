@@ -21,6 +21,7 @@ use Rattle.model.specs.Plan.{maxParameters, jointCount, stateCount, parent, isR
 use Rattle.model.specs.Check.{check}
 use Rattle.model.specs.Controller.{blank, synchronizeStates, fresh, frameVerdict, nowAt, isEnded, conditionHolds, firstPassing, winner, startedBy, stepFrom, stepped, elapsed, currentInstances, targetInstances, instancesIn, synchronized, currentPose, targetPose, poseIn, jointPose}
 use Rattle.model.specs.Tree.{statePose}
+use Rattle.model.specs.Loops.{loopsVerdict}
 use Rattle.model.specs.Skeleton.{ownMatrix, parentMatrix, jointMatrix, jointMatrices}
 use Rattle.model.specs.Run.{framePlayer, frameMatrices, Call, callVerdict, changed, after, chosenFloats, observation, runFrom}
 use Rattle.model.specs.Unseen.{Reachable, initial, target, Read, byCondition}
@@ -28,7 +29,7 @@ use Rattle.model.specs.Laws.Passed.{parent-earlier, reachable-below}
 use Rattle.model.specs.Laws.Reached.{read-marked}
 use Rattle.model.specs.Laws.Table.{table-at}
 use Rattle.model.specs.Table.{tableTo}
-use Rattle.noninterference.specs.Alike.{Closed, AlikeNumbers, AlikeCall, updates, speeds, sets, frames, AlikeCalls, none, next}
+use Rattle.noninterference.specs.Alike.{Closed, AlikeNumbers, AlikeCall, updates, speeds, sets, frames, questions, AlikeCalls, none, next}
 use Rattle.noninterference.specs.Laws.Lists.{cond-both, cond-same, cond-has, SameAt, same-refl, same-set, map-same}
 use Rattle.noninterference.specs.Laws.Numbers.{value-same, transition-duration-same}
 use Rattle.noninterference.specs.Laws.Trees.{SameInstances, synchronized-same, pose-same}
@@ -224,13 +225,15 @@ module _ (plan chosen : List ℕ) (a b : List Float) (ok : check plan (length a)
     changed-equivalent (sets n v w e) =
         record { clock = h .clock; speed = h .speed; state = h .state; transition = h .transition; reachable = h .reachable; target = h .target; parameters = same-set (h .parameters) n v w (λ r. e (read-marked plan (length a) ok r)); instances = h .instances }
     changed-equivalent (frames kind ext len) = frame-equivalent ext
+    changed-equivalent (questions s n time) = h
 
-    verdict-same : {c d : Call} → AlikeCall plan c d → callVerdict plan a p c ≡ callVerdict plan b q d
-    unfolding callVerdict frameVerdict
+    pub verdict-same : {c d : Call} → AlikeCall plan c d → callVerdict plan a p c ≡ callVerdict plan b q d
+    unfolding callVerdict frameVerdict loopsVerdict
     verdict-same (updates delta) = refl
     verdict-same (speeds v) = refl
     verdict-same (sets n v w e) = refl
     verdict-same (frames kind ext len) = rw (alike .lengths, h .state, h .transition)
+    verdict-same (questions s n time) = rw (alike .lengths, h .state, h .transition)
 
     unless-equivalent : (x : Verdict) (u v : Player) → LowEquivalent plan u v → LowEquivalent plan (unlessRefused x u p) (unlessRefused x v q)
     unfolding unlessRefused
@@ -253,6 +256,7 @@ module _ (plan chosen : List ℕ) (a b : List Float) (ok : check plan (length a)
     floats-same (speeds v) = refl
     floats-same (sets n v w e) = refl
     floats-same (frames kind ext len) = map-same _ _ chosen (λ j m. ap floats (frame-matrix kind ext j m))
+    floats-same (questions s n time) = refl
 
     observation-same : {c d : Call} → AlikeCall plan c d
         → observation (callVerdict plan a p c) (after plan a p c) (chosenFloats plan a chosen p c) ≡ observation (callVerdict plan b q d) (after plan b q d) (chosenFloats plan b chosen q d)

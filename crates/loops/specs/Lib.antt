@@ -1,0 +1,2 @@
+-- What the steps of counting give
+pub mod Counting
