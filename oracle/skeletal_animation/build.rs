@@ -1,6 +1,6 @@
 //! Finds the Rust that is ported and writes the module list that names its files in place.
 //!
-//! Two of the modules have a child module of ours beside what their file holds. A child sees what
+//! Three of the modules have a child module of ours beside what their file holds. A child sees what
 //! its parent keeps private, so the state of a controller can be read and set while the files stay
 //! as they were published.
 
@@ -15,7 +15,7 @@ const BESIDE: &str = "../shared/docs/src";
 const FILES: &str = include_str!("files.txt");
 
 /// The modules that have a child `access`, each in a file of `src/access`.
-const WITH_ACCESS: [&str; 2] = ["blend_tree", "controller"];
+const WITH_ACCESS: [&str; 3] = ["animation", "blend_tree", "controller"];
 
 /// Those of the six files that are not in `folder`.
 fn lacking(folder: &Path) -> Vec<PathBuf> {

@@ -1,6 +1,8 @@
 //! The static library's functions, declared here once more from its description.
 
-use crate::evaluator::{Answer, Evaluator, HostPlayer, HostUses, Shown, TextAnswer};
+use crate::evaluator::{
+    Answer, Evaluator, HostLoops, HostPlayer, HostUses, Question, Shown, TextAnswer,
+};
 
 extern "C" {
     fn gentianlathe_start(
@@ -47,6 +49,16 @@ extern "C" {
         numbers: *const f32,
         numbers_length: usize,
     ) -> HostUses;
+    fn gentianlathe_loops(
+        plan: *const u16,
+        plan_length: usize,
+        numbers: *const f32,
+        numbers_length: usize,
+        player: *const HostPlayer,
+        state: usize,
+        node: usize,
+        time: f32,
+    ) -> HostLoops;
     fn gentianlathe_player_size() -> usize;
     fn gentianlathe_output_length(plan: *const u16, plan_length: usize) -> usize;
     fn gentianlathe_most_words() -> usize;
@@ -118,6 +130,29 @@ impl Evaluator for Library {
     fn uses(&self, plan: &[u16], numbers: &[f32]) -> HostUses {
         let (words, floats) = (plan.len(), numbers.len());
         unsafe { gentianlathe_uses(plan.as_ptr(), words, numbers.as_ptr(), floats) }
+    }
+
+    fn loops(
+        &self,
+        plan: &[u16],
+        numbers: &[f32],
+        player: &mut HostPlayer,
+        question: Question,
+    ) -> HostLoops {
+        let Question { state, node, time } = question;
+        let player: *mut HostPlayer = player;
+        unsafe {
+            gentianlathe_loops(
+                plan.as_ptr(),
+                plan.len(),
+                numbers.as_ptr(),
+                numbers.len(),
+                player,
+                state,
+                node,
+                time,
+            )
+        }
     }
 
     fn player_size(&self) -> usize {

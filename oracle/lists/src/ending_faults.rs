@@ -4,7 +4,7 @@ use crate::endings::{clip_words, with_counts, with_endings};
 use crate::evaluator::{Answer, HostPlayer};
 use crate::faults::{Fault, Faulty};
 use crate::frame::Frame;
-use compare::model::clip::{local_time, place, Place};
+use compare::model::clip::{place, position, Place};
 use compare::model::figure::Checked;
 use compare::model::pose::Pose;
 use compare::texts::plan::{Clip, Node};
@@ -64,7 +64,7 @@ impl Faulty<'_> {
         }
         let time = frame.tree(figure, player, player.state).time;
         let instance = player.instances[figure.instance(player.state, 0)];
-        let position = local_time(instance, time) * figure.rate(clip);
+        let position = position(instance, time, figure.rate(clip));
         let Place {
             first,
             second,

@@ -1,5 +1,6 @@
 //! What is compared: the calls of the static library, and the player as a host holds it.
 
+use compare::model::loops::Played;
 use compare::model::uses::Uses;
 use compare::player::{Player, Running, INSTANCES, PARAMETERS};
 use compare::texts::figure::Refusal;
@@ -52,6 +53,24 @@ pub struct HostUses {
     pub clips: [u8; MOST],
 }
 
+/// What a clip has played. Refused, both are 0.
+#[repr(C)]
+#[derive(Clone, Copy, PartialEq, Eq)]
+pub struct HostLoops {
+    pub number: usize,
+    pub place: usize,
+    pub loops: usize,
+    pub rest: usize,
+}
+
+/// What is asked for: a state, a node of it, and a time.
+#[derive(Clone, Copy, Debug)]
+pub struct Question {
+    pub state: usize,
+    pub node: usize,
+    pub time: f32,
+}
+
 /// A frame or a page frame.
 #[derive(Clone, Copy, Debug, PartialEq, Eq)]
 pub enum Shown {
@@ -76,6 +95,15 @@ pub trait Evaluator {
     ) -> Answer;
     fn read_text(&self, text: &[u8], plan: &mut [u16], numbers: &mut [f32]) -> TextAnswer;
     fn uses(&self, plan: &[u16], numbers: &[f32]) -> HostUses;
+    /// Only reads the player. It is lent to be written all the same, or else the compiler might take it
+    /// for granted that nothing is.
+    fn loops(
+        &self,
+        plan: &[u16],
+        numbers: &[f32],
+        player: &mut HostPlayer,
+        question: Question,
+    ) -> HostLoops;
     fn player_size(&self) -> usize;
     fn output_length(&self, plan: &[u16]) -> usize;
     fn most_words(&self) -> usize;
@@ -172,6 +200,31 @@ impl fmt::Debug for HostUses {
     }
 }
 
+impl HostLoops {
+    pub fn of(played: Result<Played, Refusal>) -> HostLoops {
+        let Answer { number, place } = Answer::of(played.map(|_| ()));
+        let Played { loops, rest } = played.unwrap_or(Played { loops: 0, rest: 0 });
+        HostLoops {
+            number,
+            place,
+            loops,
+            rest,
+        }
+    }
+
+    pub fn answer(self) -> Answer {
+        let HostLoops { number, place, .. } = self;
+        Answer { number, place }
+    }
+}
+
+impl fmt::Debug for HostLoops {
+    fn fmt(&self, f: &mut fmt::Formatter) -> fmt::Result {
+        let HostLoops { loops, rest, .. } = self;
+        write!(f, "{:?} with {loops} loops and rest {rest}", self.answer())
+    }
+}
+
 impl HostPlayer {
     /// No player that a call leaves: a start has to overwrite all of it.
     pub const UNUSED: HostPlayer = HostPlayer {
@@ -203,9 +256,49 @@ impl HostPlayer {
         }
     }
 
+    /// All of its bits, payloads of NaNs and fields without meaning too.
+    pub fn bits(&self) -> Vec<u64> {
+        let doubles = [self.clock, self.speed, self.start].map(f64::to_bits);
+        let numbers = [self.state, self.running, self.target].map(|number| number as u64);
+        let instances = self.instances.iter().flatten();
+        let floats = self.parameters.iter().chain(instances);
+        let floats = floats.chain([&self.duration]);
+        let floats = floats.map(|float| u64::from(float.to_bits()));
+        doubles.into_iter().chain(numbers).chain(floats).collect()
+    }
+
     /// Whether it is as calls write it: 0 or 1 for `running`, and zeros behind a 0.
     pub fn is_tidy(&self) -> bool {
         let unused = (self.start.to_bits(), self.target, self.duration.to_bits());
         self.running == 1 || (self.running == 0 && unused == (0, 0, 0))
+    }
+}
+
+#[cfg(test)]
+mod tests {
+    use super::*;
+
+    /// Each of these is another player than the one before.
+    #[test]
+    fn every_field_has_its_bits() {
+        let changes: [fn(&mut HostPlayer); 10] = [
+            |player| player.clock = f64::NAN,
+            |player| player.clock = -f64::NAN,
+            |player| player.speed = 1.0,
+            |player| player.state = 1,
+            |player| player.running = 0,
+            |player| player.start = 1.0,
+            |player| player.target = 1,
+            |player| player.duration = 1.0,
+            |player| player.parameters[PARAMETERS - 1] = 1.0,
+            |player| player.instances[INSTANCES - 1][2] = 1.0,
+        ];
+        let mut player = HostPlayer::UNUSED;
+        for change in changes {
+            let before = player.bits();
+            change(&mut player);
+            assert_ne!(player.bits(), before);
+        }
+        assert_eq!(player.bits().len(), 7 + PARAMETERS + 3 * INSTANCES);
     }
 }

@@ -1,7 +1,9 @@
 //! The library with a fault put in on the way.
 
 use crate::endings::with_endings;
-use crate::evaluator::{Answer, Evaluator, HostPlayer, HostUses, Shown, TextAnswer};
+use crate::evaluator::{
+    Answer, Evaluator, HostLoops, HostPlayer, HostUses, Question, Shown, TextAnswer,
+};
 pub use crate::fault::Fault;
 use crate::frame::{checked, Frame};
 
@@ -190,6 +192,16 @@ impl Evaluator for Faulty<'_> {
         let mut uses = self.library.uses(plan, numbers);
         self.spoil_uses(plan, numbers, &mut uses);
         uses
+    }
+
+    fn loops(
+        &self,
+        plan: &[u16],
+        numbers: &[f32],
+        player: &mut HostPlayer,
+        question: Question,
+    ) -> HostLoops {
+        self.spoilt_loops((plan, numbers), player, question)
     }
 
     fn player_size(&self) -> usize {

@@ -1,7 +1,7 @@
 //! Plans of all sorts with number counts of all sorts, put to the start.
 
 use crate::endings::clip_words;
-use crate::evaluator::{Answer, Evaluator, HostPlayer};
+use crate::evaluator::{Answer, Evaluator, HostLoops, HostPlayer, Question};
 use crate::parents::parent_words;
 use crate::run::{difference, floats, same, Counts};
 use compare::generator::Generator;
@@ -112,7 +112,15 @@ fn damage_clips(generator: &mut Generator, plan: &mut [u16]) {
     }
 }
 
-/// Whether the start answers the figure as the reference does, and stores the same player.
+/// Asked of a refused figure, where 16 would be the answer of any other.
+const NOWHERE: Question = Question {
+    state: 16,
+    node: 31,
+    time: 1.5,
+};
+
+/// Whether the start answers the figure as the reference does, and stores the same player; where it is
+/// refused, a question for loops has to be refused alike.
 pub fn same_start(
     figure: &Figure,
     evaluator: &dyn Evaluator,
@@ -123,10 +131,13 @@ pub fn same_start(
     let reference = Reference::start(figure);
     let expected = Answer::of(reference.answer());
     counts.calls += 1;
-    if !expected.is_accepted() {
-        *counts.refused.entry(expected.number).or_default() += 1;
-    }
     same("the answer", &expected, &answer)?;
+    if let Err(refusal) = reference.answer() {
+        *counts.refused.entry(expected.number).or_default() += 1;
+        let asked = evaluator.loops(&figure.plan, &floats(figure), &mut player, NOWHERE);
+        let expected = HostLoops::of(Err(refusal));
+        same("a question for loops", &expected, &asked)?;
+    }
     let (expected, actual) = (reference.player().seen(), player.player().seen());
     if expected != actual || !player.is_tidy() {
         return Err(difference(&expected, &actual));

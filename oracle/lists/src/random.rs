@@ -1,6 +1,8 @@
 //! Random figures with random steps, random plans and random texts, and behind each the fixed ones.
 
 use crate::evaluator::{Evaluator, HostPlayer};
+use crate::loops;
+use crate::loops_sweep;
 use crate::page_sweep;
 use crate::plans::{self, random_plan, same_start};
 use crate::run::{run, run_steps, same, Case, Counts, Mismatch};
@@ -39,6 +41,8 @@ pub enum Found {
     Uses(Figure),
     /// Marks of a kind that were all alike, which shows nothing.
     Alike(&'static str),
+    /// A kind of question for loops that did not come, which shows nothing either.
+    Missing(&'static str),
     Text(texts::Reading),
     /// A recorded list, by its name.
     Recorded(String, Mismatch),
@@ -108,19 +112,39 @@ pub fn compare(evaluator: &dyn Evaluator, amounts: Amounts, seed: u64) -> (Found
     if let Some(found) = found {
         return (found, counts);
     }
-    while counts[0].frames < amounts.frames {
-        let case = random_case(&mut generator);
-        if run(&case, evaluator, &mut counts[0]).is_some() {
-            return (Found::List(Box::new(case)), counts);
-        }
-    }
-    for case in sweep::cases().chain(page_sweep::cases()) {
-        if run(&case, evaluator, &mut counts[0]).is_some() {
-            return (Found::List(Box::new(case)), counts);
-        }
-    }
-    let found = recorded(evaluator, &mut counts[0]);
+    let found = random_lists(evaluator, amounts.frames, &mut generator, &mut counts[0]);
+    let found = found.or_else(|| fixed_lists(evaluator, &mut counts[0]));
     (found.unwrap_or(Found::Nothing), counts)
+}
+
+/// Until so many frames were accepted. Each kind of question for loops has to be among them; the fixed
+/// lists would bring it in at once.
+fn random_lists(
+    evaluator: &dyn Evaluator,
+    frames: usize,
+    generator: &mut Generator,
+    counts: &mut Counts,
+) -> Option<Found> {
+    while counts.frames < frames {
+        let case = random_case(generator);
+        if run(&case, evaluator, counts).is_some() {
+            return Some(Found::List(Box::new(case)));
+        }
+    }
+    let is_enough = frames >= loops::ENOUGH;
+    let missing = is_enough.then(|| counts.loops.missing()).flatten();
+    missing.map(Found::Missing)
+}
+
+/// Those that no seed changes.
+fn fixed_lists(evaluator: &dyn Evaluator, counts: &mut Counts) -> Option<Found> {
+    let cases = sweep::cases().chain(page_sweep::cases());
+    for case in cases.chain(loops_sweep::cases()) {
+        if run(&case, evaluator, counts).is_some() {
+            return Some(Found::List(Box::new(case)));
+        }
+    }
+    recorded(evaluator, counts)
 }
 
 /// Compares, and prints what was compared and the smallest form of what was found. A list goes into
@@ -134,6 +158,7 @@ pub fn random(
     println!("lists: seed {seed}");
     let (found, [lists, plans, texts, asked]) = compare(evaluator, amounts, seed);
     println!("lists: {}", sentence(&lists));
+    println!("lists: {}", lists.loops.sentence());
     println!(
         "lists: {} plans and {} texts; refused: {}; {}",
         plans.calls,
@@ -165,6 +190,7 @@ fn print_found(found: &Found, evaluator: &dyn Evaluator, folder: &Path) -> io::R
         }
         Found::Uses(figure) => uses::print(figure, evaluator, folder)?,
         Found::Alike(kind) => println!("lists: the marks of {kind} were all alike"),
+        Found::Missing(kind) => println!("lists: 0 questions for loops {kind}"),
         Found::Text(reading) => {
             let (least, what) = texts::smallest(reading, evaluator);
             let (words, numbers) = (least.words, least.numbers);

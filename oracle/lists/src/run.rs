@@ -1,12 +1,15 @@
 //! A figure with steps, put to the evaluator and to the reference side by side.
 
 use crate::endings::Looping;
-use crate::evaluator::{Answer, Evaluator, HostPlayer, Shown};
+use crate::evaluator::{Answer, Evaluator, HostLoops, HostPlayer, Question, Shown};
+use crate::loops::{Asked, LoopsCounts};
 use crate::output::Output;
 use crate::pauses::Pauses;
 use crate::step::{Edit, Step};
 use compare::lists::call::Call;
 use compare::lists::report::player_line;
+use compare::model::figure::Checked;
+use compare::model::loops::Played;
 use compare::player::Seen;
 use compare::reference::Reference;
 use compare::texts::draft::Draft;
@@ -51,6 +54,8 @@ pub struct Counts {
     pub refused: BTreeMap<usize, usize>,
     /// How many marks were 0 and 1, of states, of parameters and of clips.
     pub marks: [[usize; 2]; 3],
+    /// Answers to questions for loops.
+    pub loops: LoopsCounts,
 }
 
 /// The case's first difference.
@@ -128,6 +133,9 @@ impl<'a> Run<'a> {
                 self.store(edits);
                 Ok(())
             }
+            Step::Other(figure, Call::Loops(state, node, time)) => {
+                self.other_loops(figure, question(*state, *node, *time))
+            }
             Step::Other(figure, call) => self.other(figure, *call),
         }
     }
@@ -161,6 +169,7 @@ impl<'a> Run<'a> {
                 [answer, Answer::of(expected)]
             }
             Call::Frame(..) | Call::Page(..) => return self.frame(call),
+            Call::Loops(state, node, time) => return self.loops(question(state, node, time)),
         };
         self.same_answer(answers[0], answers[1])?;
         self.same_player(answers[1].is_accepted())
@@ -202,6 +211,58 @@ impl<'a> Run<'a> {
         let expected = shown_by(&mut reference, call);
         self.reference.store(&reference.player());
         self.same_frame(answer, expected, &output)
+    }
+
+    fn loops(&mut self, question: Question) -> Result<(), String> {
+        let expected = told_by(&self.reference, question);
+        self.same_loops(self.figure, question, expected)
+    }
+
+    /// The player is shown to another figure.
+    fn other_loops(&mut self, figure: &Figure, question: Question) -> Result<(), String> {
+        let reference = Reference::resumed(figure, &self.reference.player());
+        self.same_loops(figure, question, told_by(&reference, question))
+    }
+
+    /// Nothing of the player may change, so the reference's stays as it is.
+    fn same_loops(
+        &mut self,
+        figure: &Figure,
+        question: Question,
+        expected: Result<Played, Refusal>,
+    ) -> Result<(), String> {
+        let before = self.player;
+        let (plan, numbers) = (&figure.plan, floats(figure));
+        let answer = self
+            .evaluator
+            .loops(plan, &numbers, &mut self.player, question);
+        self.count_loops(figure, question, expected);
+        self.same_answer(answer.answer(), Answer::of(expected.map(|_| ())))?;
+        same("loops and rest", &HostLoops::of(expected), &answer)?;
+        if before.bits() != self.player.bits() {
+            let [before, after] = [before, self.player].map(|player| player.player().seen());
+            let what = difference(&before, &after);
+            return Err(format!("a player that is only read: {what}"));
+        }
+        Ok(())
+    }
+
+    fn count_loops(
+        &mut self,
+        figure: &Figure,
+        question: Question,
+        expected: Result<Played, Refusal>,
+    ) {
+        let counts = &mut self.counts.loops;
+        if let Err(refusal) = expected {
+            return counts.count_refused(refusal);
+        }
+        let figure = Checked::new(figure).ok();
+        let asked = figure
+            .as_ref()
+            .and_then(|figure| Asked::new(figure, question));
+        let asked = asked.expect("what is accepted is a clip node");
+        counts.count_accepted(&asked, &self.reference.player());
     }
 
     fn same_frame(
@@ -255,6 +316,15 @@ fn frame_arguments(call: Call) -> (Shown, f64, usize) {
         Call::Page(ext, length) => (Shown::Page, f64::from_bits(ext), length),
         _ => unreachable!("only frames show something"),
     }
+}
+
+fn question(state: usize, node: usize, time: u32) -> Question {
+    let time = f32::from_bits(time);
+    Question { state, node, time }
+}
+
+fn told_by(reference: &Reference, question: Question) -> Result<Played, Refusal> {
+    reference.loops(question.state, question.node, question.time)
 }
 
 fn shown_by(reference: &mut Reference, call: Call) -> Result<Matrices, Refusal> {

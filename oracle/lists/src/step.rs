@@ -3,7 +3,7 @@
 use crate::evaluator::HostPlayer;
 use compare::generator::{Generator, SPECIAL};
 use compare::lists::call::Call;
-use compare::lists::random_calls::{call, double, value, Calls};
+use compare::lists::random_calls::{call, double, number, value, Calls};
 use compare::texts::draft::Draft;
 use compare::texts::figure::Figure;
 
@@ -12,7 +12,7 @@ pub enum Step {
     Call(Call),
     /// The host writes its player's fields.
     Store(Vec<Edit>),
-    /// A frame or page frame with another figure than the player's own.
+    /// A frame, a page frame or a question for loops with another figure than the player's own.
     Other(Box<Figure>, Call),
 }
 
@@ -86,23 +86,15 @@ pub fn random_steps(
         1 => {
             let call = call(generator, draft, calls);
             match call {
-                Call::Frame(..) | Call::Page(..) => Step::Other(Box::new(others(generator)), call),
+                Call::Frame(..) | Call::Page(..) | Call::Loops(..) => {
+                    Step::Other(Box::new(others(generator)), call)
+                }
                 _ => Step::Call(call),
             }
         }
         _ => Step::Call(call(generator, draft, calls)),
     };
     (0..count).map(step).collect()
-}
-
-/// A state's number, most likely one that is there.
-fn state(generator: &mut Generator, draft: &Draft) -> usize {
-    let states = draft.states.len();
-    let random = generator.draw() as usize;
-    match generator.below(8) {
-        0 => generator.pick(&[states, states + 1, 255, 65536, usize::MAX, random]),
-        _ => generator.below(states.max(1) as u64) as usize,
-    }
 }
 
 fn float(generator: &mut Generator, draft: &Draft) -> u32 {
@@ -116,11 +108,11 @@ fn edit(generator: &mut Generator, draft: &Draft, calls: Calls) -> Edit {
     match generator.below(7) {
         0 => Edit::Clock(double(generator, calls)),
         1 => Edit::Speed(double(generator, calls)),
-        2 => Edit::State(state(generator, draft)),
+        2 => Edit::State(number(generator, draft.states.len())),
         3 | 4 => Edit::Transition(
             generator.pick(&[0, 1, 1, 1, 2, usize::MAX, 1 << 63]),
             double(generator, calls),
-            state(generator, draft),
+            number(generator, draft.states.len()),
             float(generator, draft),
         ),
         5 => Edit::Parameter(generator.below(32) as usize, float(generator, draft)),

@@ -135,6 +135,7 @@ mod tests {
     use crate::abi::Library;
     use crate::faults::{Fault, Faulty};
     use crate::random::{compare as compared, Amounts, Found};
+    use compare::lists::report::{done, Output};
     use compare::reference::Reference;
     use compare::texts::plan::check;
     use std::collections::BTreeMap;
@@ -168,11 +169,10 @@ mod tests {
             let mut player = Reference::start(&draft.figure());
             assert_eq!(player.answer(), Ok(()), "{joints}");
             assert_eq!(player.is_rust(), joints <= 64);
-            let shown = calls(joints).map(|call| {
-                let (answer, matrices) = compare::lists::report::done(&mut player, call);
-                answer
-                    .map(|()| matrices.len())
-                    .map_err(|refusal| refusal.number)
+            let shown = calls(joints).map(|call| match done(&mut player, call) {
+                Ok(Output::Matrices(matrices)) => Ok(matrices.len()),
+                Ok(_) => Ok(0),
+                Err(refusal) => Err(refusal.number),
             });
             let all = Ok(usize::from(joints));
             let expected = [

@@ -2,7 +2,7 @@
 
 use super::call::Call;
 use crate::generator::{Generator, SPECIAL};
-use crate::texts::draft::Draft;
+use crate::texts::draft::{Draft, State};
 
 /// Doubles at which a clock or a comparison changes its course.
 const SPECIAL_DOUBLES: [f64; 18] = [
@@ -100,12 +100,55 @@ pub fn length(generator: &mut Generator, draft: &Draft) -> usize {
     }
 }
 
+/// A number, most likely below `count`.
+pub fn number(generator: &mut Generator, count: usize) -> usize {
+    let random = generator.draw() as usize;
+    match generator.below(16) {
+        0 => count,
+        1 => generator.pick(&[count + 1, 255, 65535, 65536, usize::MAX, random]),
+        _ => generator.below(count.max(1) as u64) as usize,
+    }
+}
+
+/// A node's number, most likely a clip node's.
+fn node(generator: &mut Generator, state: Option<&State>) -> usize {
+    let nodes = state.map_or(&[][..], |state| &state.nodes);
+    let is_clip = |node: &usize| nodes[*node][0] == 0;
+    let clips: Vec<usize> = (0..nodes.len()).filter(is_clip).collect();
+    match generator.below(4) {
+        0 => number(generator, nodes.len()),
+        _ if clips.is_empty() => 0,
+        _ => generator.pick(&clips),
+    }
+}
+
+/// The time of a question for loops: soon, or so late that the index is large, or any pattern.
+fn time(generator: &mut Generator) -> u32 {
+    match generator.below(8) {
+        0 => generator.pick(&SPECIAL),
+        1 => generator.draw() as u32,
+        2 | 3 => {
+            let late = generator.between(0.5, 1.0);
+            (late * 2f32.powi(generator.below(72) as i32)).to_bits()
+        }
+        4 => (generator.below(64) as f32 / 2.0).to_bits(),
+        _ => generator.between(-2.0, 30.0).to_bits(),
+    }
+}
+
+fn loops(generator: &mut Generator, draft: &Draft) -> Call {
+    let state = number(generator, draft.states.len());
+    let node = node(generator, draft.states.get(state));
+    Call::Loops(state, node, time(generator))
+}
+
 pub fn call(generator: &mut Generator, draft: &Draft, calls: Calls) -> Call {
-    match generator.below(12) {
+    match generator.below(14) {
         0..=2 => Call::Update(double(generator, calls)),
         3 => Call::Speed(double(generator, calls)),
         4 | 5 => Call::Set(parameter(generator, draft), value(generator, draft)),
         6 | 7 => Call::Page(double(generator, calls), length(generator, draft)),
+        8 | 9 => loops(generator, draft),
         _ => Call::Frame(double(generator, calls), length(generator, draft)),
     }
 }

@@ -140,8 +140,11 @@ mod tests {
             "refused,10,0",
             "refused,11,",
             "refused,13,65536",
+            "refused,16,0",
+            "refused,17,0",
         ];
-        for start in answers.iter().chain(&others).chain(&["malformed,"]) {
+        let lines = ["malformed,", "joint,", "loops,"];
+        for start in answers.iter().chain(&others).chain(&lines) {
             assert!(
                 stdout.lines().any(|line| line.starts_with(start)),
                 "{start}"

@@ -1,6 +1,7 @@
 //! What the program `replay` prints for a figure's text and a list of calls.
 
 use super::call::{parsed, Call};
+use crate::model::loops::Played;
 use crate::player::Seen;
 use crate::reference::Reference;
 use crate::row::joined;
@@ -20,36 +21,51 @@ pub fn report(figure: &[u8], list: &[u8]) -> String {
     let mut player = Reference::start(&figure);
     let mut text = answer_line(player.answer()) + &player_line(&player.player().seen());
     for call in calls {
-        let (answer, matrices) = done(&mut player, call);
-        text += &answer_line(answer);
+        let done = done(&mut player, call);
+        text += &answer_line(done.as_ref().map(|_| ()).map_err(|refusal| *refusal));
         text += &player_line(&player.player().seen());
-        text.extend(matrices.iter().enumerate().map(joint_line));
+        text += &done.map_or(String::new(), |output| output.lines());
     }
     text + &ending(&player.player().seen())
 }
 
-/// The call's answer, and each joint's matrix after an accepted frame.
-pub fn done(player: &mut Reference, call: Call) -> (Result<(), Refusal>, Vec<Matrix4<f32>>) {
-    let shown = match call {
-        Call::Update(delta) => {
-            player.update(f64::from_bits(delta));
-            Ok(Vec::new())
+/// What an accepted call gives beside the player.
+pub enum Output {
+    Nothing,
+    /// Each joint's.
+    Matrices(Vec<Matrix4<f32>>),
+    Loops(Played),
+}
+
+impl Output {
+    fn lines(&self) -> String {
+        match self {
+            Output::Nothing => String::new(),
+            Output::Matrices(matrices) => matrices.iter().enumerate().map(joint_line).collect(),
+            Output::Loops(Played { loops, rest }) => format!("loops,{loops},{rest}\n"),
         }
-        Call::Speed(speed) => {
-            player.speed(f64::from_bits(speed));
-            Ok(Vec::new())
-        }
-        Call::Set(parameter, value) => {
-            let answer = player.set(parameter, f32::from_bits(value));
-            answer.map(|()| Vec::new())
-        }
-        Call::Frame(ext, length) => player.frame(f64::from_bits(ext), length),
-        Call::Page(ext, length) => player.page_frame(f64::from_bits(ext), length),
-    };
-    match shown {
-        Ok(matrices) => (Ok(()), matrices),
-        Err(refusal) => (Err(refusal), Vec::new()),
     }
+}
+
+pub fn done(player: &mut Reference, call: Call) -> Result<Output, Refusal> {
+    match call {
+        Call::Update(delta) => player.update(f64::from_bits(delta)),
+        Call::Speed(speed) => player.speed(f64::from_bits(speed)),
+        Call::Set(parameter, value) => player.set(parameter, f32::from_bits(value))?,
+        Call::Frame(ext, length) => {
+            let matrices = player.frame(f64::from_bits(ext), length)?;
+            return Ok(Output::Matrices(matrices));
+        }
+        Call::Page(ext, length) => {
+            let matrices = player.page_frame(f64::from_bits(ext), length)?;
+            return Ok(Output::Matrices(matrices));
+        }
+        Call::Loops(state, node, time) => {
+            let played = player.loops(state, node, f32::from_bits(time))?;
+            return Ok(Output::Loops(played));
+        }
+    }
+    Ok(Output::Nothing)
 }
 
 pub fn answer_line(answer: Result<(), Refusal>) -> String {
@@ -148,6 +164,36 @@ mod tests {
         assert!(lines[12].starts_with("parameters,"));
     }
 
+    /// In BLEND clip 1 has one sample, two a second; at a parameter of 0 node 1 plays it at half speed.
+    #[test]
+    fn loops_are_told_behind_the_player() {
+        let calls = [
+            Call::update(0.5),
+            Call::loops(0, 1, 7.5),
+            Call::loops(0, 2, 7.5),
+            Call::loops(1, 0, f32::INFINITY),
+            Call::speed(2.0),
+        ];
+        let lines = lines(&calls);
+        let moved = "player,3fe0000000000000,3ff0000000000000,0,idle";
+        let expected = [
+            "ok",
+            moved,
+            "ok",
+            moved,
+            "loops,7,0",
+            "refused,16,0",
+            moved,
+            "ok",
+            moved,
+            "loops,18446744073709551615,0",
+            "ok",
+            "player,3fe0000000000000,4000000000000000,0,idle",
+        ];
+        assert_eq!(lines[2..14], expected);
+        assert!(lines[14].starts_with("parameters,"));
+    }
+
     #[test]
     fn after_a_refused_start_the_blank_player_goes_on() {
         let refused = BLEND.replace("joint,255", "joint,0");
@@ -156,6 +202,7 @@ mod tests {
             Call::set(31, -1.0),
             Call::set(32, 1.0),
             Call::frame(0.0, 16),
+            Call::loops(0, 0, 0.0),
         ];
         let report = report(refused.as_bytes(), text(&calls).as_bytes());
         let lines: Vec<&str> = report.lines().collect();
@@ -168,10 +215,12 @@ mod tests {
             "refused,8,0",
             moved,
             "refused,3,5",
+            moved,
+            "refused,3,5",
         ];
         assert_eq!(lines[0], "refused,3,5");
-        assert_eq!(lines[2..9], expected);
-        assert!(lines[10].ends_with(",bf800000"));
-        assert_eq!(lines[12], "instance,1,00000000,3f800000,00000000");
+        assert_eq!(lines[2..11], expected);
+        assert!(lines[12].ends_with(",bf800000"));
+        assert_eq!(lines[14], "instance,1,00000000,3f800000,00000000");
     }
 }

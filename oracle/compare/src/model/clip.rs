@@ -23,13 +23,23 @@ pub fn place(clip: &Clip, position: f32) -> Option<Place> {
             factor: 0.0,
         });
     }
-    let floor = position.floor() as usize;
+    let floor = floor_index(position);
     let ceiling = position.ceil() as usize;
     Some(Place {
         first: floor % samples,
         second: ceiling % samples,
         factor: position - floor as f32,
     })
+}
+
+/// NaN and negatives are at 0, 2^64 and above at 2^64 - 1.
+pub fn floor_index(position: f32) -> usize {
+    position.floor() as usize
+}
+
+/// In samples, for a clip of this rate.
+pub fn position(instance: Instance, time: f32, rate: f32) -> f32 {
+    local_time(instance, time) * rate
 }
 
 /// In seconds, at this rate.

@@ -5,6 +5,7 @@
 pub mod clip;
 mod controller;
 pub mod figure;
+pub mod loops;
 pub mod pose;
 pub mod rotation;
 pub mod skeleton;
@@ -89,13 +90,8 @@ impl Model {
 
     /// A frame up to the joints' own matrices: the player moves.
     pub fn own_matrices(&mut self, ext: f64, length: usize) -> Result<Vec<Matrix>, Refusal> {
-        let figure = self.figure.as_ref().map_err(|refusal| *refusal)?;
+        let figure = playable(&self.figure, &self.player)?;
         let player = &mut self.player;
-        let is_absent = |state: usize| state >= figure.plan.states.len();
-        let target = player.transition.map(|running| running.target);
-        if is_absent(player.state) || target.is_some_and(is_absent) {
-            return refused(9);
-        }
         if length < 16 * figure.joints() {
             return refused(10);
         }
@@ -106,12 +102,28 @@ impl Model {
     }
 }
 
+/// The figure, where the player is in states of it.
+fn playable<'a>(
+    figure: &'a Result<Checked, Refusal>,
+    player: &Player,
+) -> Result<&'a Checked, Refusal> {
+    let figure = figure.as_ref().map_err(|refusal| *refusal)?;
+    let is_absent = |state: usize| state >= figure.plan.states.len();
+    let target = player.transition.map(|running| running.target);
+    if is_absent(player.state) || target.is_some_and(is_absent) {
+        return refused(9);
+    }
+    Ok(figure)
+}
+
 fn refused<T>(number: u8) -> Result<T, Refusal> {
     Err(Refusal { number, place: 0 })
 }
 
 #[cfg(test)]
 mod joint_tests;
+#[cfg(test)]
+mod loops_tests;
 #[cfg(test)]
 mod page_tests;
 #[cfg(test)]

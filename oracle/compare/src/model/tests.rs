@@ -154,6 +154,9 @@ pub fn done(model: &mut Model, call: Call) -> Result<Vec<Matrix>, Refusal> {
         Call::Set(parameter, value) => model.set(parameter, f32::from_bits(value))?,
         Call::Frame(ext, length) => return model.frame(f64::from_bits(ext), length),
         Call::Page(ext, length) => return model.page_frame(f64::from_bits(ext), length),
+        Call::Loops(state, node, time) => {
+            model.loops(state, node, f32::from_bits(time))?;
+        }
     }
     Ok(Vec::new())
 }
@@ -171,7 +174,10 @@ fn players_do_not_depend_on_endings() {
         for _ in 0..16 {
             let call = call(&mut generator, &draft, Calls::Sparse);
             let [one, other] = models.each_mut().map(|model| done(model, call));
-            assert_eq!(one.as_ref().err(), other.as_ref().err());
+            // Loops are told of looping clips alone.
+            if !matches!(call, Call::Loops(..)) {
+                assert_eq!(one.as_ref().err(), other.as_ref().err());
+            }
             let [one, other] = [one, other].map(|shown| {
                 let matrices = shown.unwrap_or_default();
                 matrices

@@ -1,6 +1,6 @@
 //! A state's tree: its clips' playback rates, and the pose of a joint.
 
-use super::clip::{duration, local_time, place, with_rate};
+use super::clip::{duration, place, position, with_rate};
 use super::figure::Checked;
 use super::pose::Pose;
 use crate::player::Player;
@@ -77,7 +77,7 @@ impl Tree<'_> {
     /// The identity itself where the clip has no samples: nothing is lerped then.
     fn clip_pose(&self, player: &Player, node: usize, clip: usize, joint: usize) -> Pose {
         let instance = player.instances[self.figure.instance(self.state, node)];
-        let position = local_time(instance, self.time) * self.figure.rate(clip);
+        let position = position(instance, self.time, self.figure.rate(clip));
         let Some(place) = place(self.figure.clip(clip), position) else {
             return Pose::IDENTITY;
         };

@@ -9,6 +9,7 @@ mod rust;
 
 use crate::judge::matrix_bits;
 use crate::lists::report::{ending, player_line};
+use crate::model::loops::Played;
 use crate::model::Model;
 use crate::player::{Player, Seen};
 use crate::texts::figure::{Figure, Refusal};
@@ -96,6 +97,16 @@ impl Reference {
         let shown = self.model.page_frame(ext, length);
         let other = self.rust.as_mut().map(|rust| rust.page_frame(ext, length));
         self.judged("a page frame", shown, other)
+    }
+
+    /// What a state's clip node has played at a time. Nothing moves.
+    pub fn loops(&self, state: usize, node: usize, time: f32) -> Result<Played, Refusal> {
+        let answer = self.model.loops(state, node, time);
+        if let Some(rust) = &self.rust {
+            let other = rust.loops(state, node, time);
+            self.agree("a question for loops", &answer, &other);
+        }
+        answer
     }
 
     /// What the Rust shows where it plays, and else the model.

@@ -3,9 +3,11 @@
 
 use super::controller::{self, name, Controller};
 use super::page::PageMatrix;
+use crate::model::loops::Played;
 use crate::player::{Instance, Player, Running, BLANK_INSTANCE, INSTANCES, PARAMETERS};
 use crate::texts::figure::{Figure, Refusal};
 use crate::texts::plan::{check, Node, Plan};
+use skeletal_animation::animation::access::local_time;
 use skeletal_animation::animation::ClipInstance;
 use skeletal_animation::blend_tree::access::{clip_places, instance, instance_mut};
 use skeletal_animation::controller::access::{fields, fields_mut};
@@ -29,6 +31,8 @@ pub struct RustPlayer {
 /// Where the Rust keeps a clip node.
 struct Leaf {
     state: String,
+    /// Its number in the plan's state.
+    node: usize,
     place: usize,
 }
 
@@ -89,20 +93,45 @@ impl RustPlayer {
         ext: f64,
         length: usize,
     ) -> Result<Vec<T>, Refusal> {
-        let plan = self.checked.as_ref().map_err(|refusal| *refusal)?;
-        let states = plan.states.len();
-        let joints = plan.parents.len();
-        let held = fields(&self.controller);
-        let target = held.transition.as_ref().map(|begun| running(begun).target);
-        if number(held.current_state) >= states || target.is_some_and(|target| target >= states) {
-            return refused(9);
-        }
+        let joints = self.playable()?.parents.len();
         if length < 16 * joints {
             return refused(10);
         }
         let mut output = vec![T::identity(); joints];
         self.controller.get_output_pose(ext, &mut output);
         Ok(output)
+    }
+
+    /// The plan, where the controller is in states of it.
+    fn playable(&self) -> Result<&Plan, Refusal> {
+        let plan = self.checked.as_ref().map_err(|refusal| *refusal)?;
+        let states = plan.states.len();
+        let held = fields(&self.controller);
+        let target = held.transition.as_ref().map(|begun| running(begun).target);
+        if number(held.current_state) >= states || target.is_some_and(|target| target >= states) {
+            return refused(9);
+        }
+        Ok(plan)
+    }
+
+    /// The Rust has no such call: the position is its own, the division ours. All its clips loop and
+    /// have samples, so 17 is never given.
+    pub fn loops(&self, state: usize, node: usize, time: f32) -> Result<Played, Refusal> {
+        self.playable()?;
+        let state = name(state);
+        let mut leaves = self.leaves.iter();
+        let Some(leaf) = leaves.find(|leaf| leaf.state == state && leaf.node == node) else {
+            return refused(16);
+        };
+        let tree = &fields(&self.controller).states[&leaf.state].blend_tree;
+        let instance = instance(tree, leaf.place);
+        let position = local_time(instance, time) * instance.clip.samples_per_second;
+        let index = position.floor() as usize;
+        let samples = instance.clip.samples.len();
+        Ok(Played {
+            loops: index / samples,
+            rest: index % samples,
+        })
     }
 
     /// The player that the controller holds.
@@ -183,8 +212,9 @@ fn leaves(plan: &Plan, controller: &Controller) -> Vec<Leaf> {
         assert_eq!(nodes.len(), places.len(), "clip nodes of a state");
         let mut met: Vec<(usize, usize)> = nodes.into_iter().zip(places).collect();
         met.sort_unstable();
-        all.extend(met.into_iter().map(|(_, place)| Leaf {
+        all.extend(met.into_iter().map(|(node, place)| Leaf {
             state: state_name.clone(),
+            node,
             place,
         }));
     }

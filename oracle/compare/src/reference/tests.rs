@@ -266,3 +266,17 @@ fn an_answer_of_the_model_that_is_not_the_rusts_is_told() {
         .store(&reference.rust.as_ref().unwrap().player());
     let _ = reference.page_frame(0.0, 0);
 }
+
+/// At 4.25 seconds, by a rate of 2, the only sample of state 1 was played eight times.
+#[test]
+#[should_panic(expected = "the oracle's own model is not the Rust's after a question for loops")]
+fn loops_of_the_model_that_are_not_the_rusts_are_told() {
+    let mut reference = Reference::start(&blend());
+    let mut player = reference.player();
+    player.instances[2] = [0.0, 1.0, 4.25];
+    reference.store(&player);
+    assert_eq!(reference.loops(1, 0, 0.0).unwrap().loops, 8);
+    player.instances[2][2] = 5.25;
+    reference.model.store(&player);
+    let _ = reference.loops(1, 0, 0.0);
+}

@@ -1,6 +1,7 @@
 //! The recorded lists one by one.
 
 mod endings;
+mod loops;
 mod pages;
 mod pauses;
 mod players;
@@ -35,6 +36,10 @@ pub fn cases() -> Vec<List> {
         pauses::transitions(),
         pages::still_figures(),
         pages::moving_figures(),
+        loops::positions(),
+        loops::players(),
+        loops::refused(),
+        loops::malformed(),
         players::speeds(),
         players::clocks(),
         players::parameters(),

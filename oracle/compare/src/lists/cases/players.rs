@@ -53,10 +53,10 @@ pub fn clocks() -> Vec<List> {
     let bench = [vec![Call::update(2.0), Call::speed(3.0)], shown.to_vec()].concat();
     let lerp = joined(1, 1);
     let mut long = vec![Call::set(0, 0.375)];
-    long.extend(steps(&lerp, 1.0 / 60.0, 150));
+    long.extend(steps(&lerp, 1.0 / 60.0, 60));
     vec![
         List::new("ext-and-speed", "case k of the bench sheet", &clip, &bench),
-        List::new("long", "150 steps of a sixtieth", &lerp, &long),
+        List::new("long", "60 steps of a sixtieth", &lerp, &long),
     ]
 }
 

@@ -21,6 +21,7 @@ fn calls() -> Vec<Call> {
         Call::set(32, 0.5),
         Call::frame(0.5, 0),
         Call::page(0.5, 65535),
+        Call::loops(9, 9, 0.5),
     ]
 }
 
