@@ -3,6 +3,7 @@
  *
  *     example [-p] [FIGURE [SECONDS [PARAMETER VALUE]]]
  *     example -u [FIGURE]
+ *     example -l STATE NODE TIME [FIGURE]
  *
  * FIGURE is a file with a figure's text (default: examples/printed.figure, from the repository's folder).
  * The first frame right after the start is printed as the program gentianlathe prints it, with ext 0. Where
@@ -11,6 +12,9 @@
  *
  * With -u no frame is shown. It prints what the figure can ever use, as `inspect uses` does: `ok`, and then for each
  * state, parameter and clip a line with its number and its mark, 1 or 0.
+ *
+ * With -l no frame is shown either. It prints how many loops the clip of that node has played at TIME, in seconds, by a
+ * player that was just started: `ok`, and then `loops,LOOPS,REST`.
  *
  * A refusal is printed as `refused,number,place`, and put in words on standard error.
  * Exit status: 0 shown, 1 refused, 2 something else went wrong (usage, file, memory, a foreign archive).
@@ -23,6 +27,8 @@
 #include <string.h>
 
 enum { SHOWN = 0, REFUSED = 1, FAILED = 2 };
+
+enum question { FRAMES, PAGE_FRAMES, USES, LOOPS };
 
 typedef struct {
     uint8_t *bytes;
@@ -37,14 +43,15 @@ typedef struct {
 } figure;
 
 typedef struct {
-    int pages; /* whether page frames are asked for */
-    int uses;  /* whether what the figure can use is asked for, and no frame */
+    enum question question;
     const char *path;
     int again; /* whether a second frame is asked for */
     double seconds;
     int sets; /* whether a parameter is to be set */
     size_t parameter;
     float value;
+    size_t state, node; /* of which loops are counted */
+    float time;
 } options;
 
 /* malloc may give null for 0 bytes, and the library wants a pointer for a length of 0 too. */
@@ -148,24 +155,31 @@ static int show(const figure *shown, int pages, gentianlathe_player *player, flo
     return SHOWN;
 }
 
+static int start(const figure *started, gentianlathe_player *player)
+{
+    gentianlathe_answer answer =
+        gentianlathe_start(started->plan, started->words, started->numbers, started->count, player);
+    return answer.number == 0 ? SHOWN : refuse(answer.number, answer.place);
+}
+
 static int play(const figure *played, const options *asked)
 {
     gentianlathe_player player;
-    gentianlathe_answer answer =
-        gentianlathe_start(played->plan, played->words, played->numbers, played->count, &player);
-    if (answer.number != 0)
-        return refuse(answer.number, answer.place);
+    int pages = asked->question == PAGE_FRAMES;
+    int status = start(played, &player);
+    if (status != SHOWN)
+        return status;
     size_t length = gentianlathe_output_length(played->plan, played->words);
     float *output = allocate(length, sizeof *output);
-    int status = show(played, asked->pages, &player, output, length);
+    status = show(played, pages, &player, output, length);
     if (status == SHOWN && asked->again) {
         gentianlathe_update(&player, asked->seconds);
         if (asked->sets) {
-            answer = gentianlathe_set(&player, asked->parameter, asked->value);
+            gentianlathe_answer answer = gentianlathe_set(&player, asked->parameter, asked->value);
             status = answer.number == 0 ? SHOWN : refuse(answer.number, answer.place);
         }
         if (status == SHOWN)
-            status = show(played, asked->pages, &player, output, length);
+            status = show(played, pages, &player, output, length);
     }
     free(output);
     return status;
@@ -191,41 +205,89 @@ static int list_uses(const figure *listed)
     return SHOWN;
 }
 
+static int count_loops(const figure *counted, const options *asked)
+{
+    gentianlathe_player player;
+    int status = start(counted, &player);
+    if (status != SHOWN)
+        return status;
+    gentianlathe_loops_answer played =
+        gentianlathe_loops(counted->plan, counted->words, counted->numbers, counted->count, &player,
+                           asked->state, asked->node, asked->time);
+    if (played.number != 0)
+        return refuse(played.number, played.place);
+    printf("ok\nloops,%lu,%lu\n", (unsigned long)played.loops, (unsigned long)played.rest);
+    return SHOWN;
+}
+
+static int run(const figure *read, const options *asked)
+{
+    switch (asked->question) {
+    case USES:
+        return list_uses(read);
+    case LOOPS:
+        return count_loops(read, asked);
+    default:
+        return play(read, asked);
+    }
+}
+
 static int usage(void)
 {
     fprintf(stderr, "usage: example [-p] [FIGURE [SECONDS [PARAMETER VALUE]]]\n"
-                    "       example -u [FIGURE]\n");
+                    "       example -u [FIGURE]\n"
+                    "       example -l STATE NODE TIME [FIGURE]\n");
     return FAILED;
+}
+
+static int is_count(const char *word, size_t *count)
+{
+    char *end = NULL;
+    *count = strtoul(word, &end, 10);
+    return end != word && *end == '\0' && word[0] != '-';
+}
+
+static int is_real(const char *word, double *real)
+{
+    char *end = NULL;
+    *real = strtod(word, &end);
+    return end != word && *end == '\0';
+}
+
+/* How many words the option takes, itself included, and what it asks for. -1 where they are not right. */
+static int parse_option(int count, char **words, options *asked)
+{
+    static const char *const flags[] = {[PAGE_FRAMES] = "-p", [USES] = "-u", [LOOPS] = "-l"};
+    double time = 0;
+    for (enum question question = PAGE_FRAMES; count > 1 && question <= LOOPS; question++)
+        if (strcmp(words[1], flags[question]) == 0)
+            asked->question = question;
+    if (asked->question != LOOPS)
+        return asked->question == FRAMES ? 0 : 1;
+    if (count < 5 || !is_count(words[2], &asked->state) || !is_count(words[3], &asked->node) ||
+        !is_real(words[4], &time))
+        return -1;
+    asked->time = (float)time;
+    return 4;
 }
 
 static int parse(int count, char **words, options *asked)
 {
-    char *end = NULL;
+    double value = 0;
     memset(asked, 0, sizeof *asked);
-    if (count > 1 && (strcmp(words[1], "-p") == 0 || strcmp(words[1], "-u") == 0)) {
-        asked->pages = words[1][1] == 'p';
-        asked->uses = words[1][1] == 'u';
-        count--;
-        words++;
-    }
-    asked->path = count > 1 ? words[1] : "examples/printed.figure";
-    if (count == 4 || count > (asked->uses ? 2 : 5))
+    int taken = parse_option(count, words, asked);
+    if (taken < 0)
         return usage();
-    if (count > 2) {
-        asked->again = 1;
-        asked->seconds = strtod(words[2], &end);
-        if (end == words[2] || *end != '\0')
-            return usage();
-    }
-    if (count > 4) {
-        asked->sets = 1;
-        asked->parameter = strtoul(words[3], &end, 10);
-        if (end == words[3] || *end != '\0' || words[3][0] == '-')
-            return usage();
-        asked->value = (float)strtod(words[4], &end);
-        if (end == words[4] || *end != '\0')
-            return usage();
-    }
+    count -= taken;
+    words += taken;
+    asked->path = count > 1 ? words[1] : "examples/printed.figure";
+    asked->again = count > 2;
+    asked->sets = count > 4;
+    int frames = asked->question == FRAMES || asked->question == PAGE_FRAMES;
+    if (count == 4 || count > (frames ? 5 : 2) || (asked->again && !is_real(words[2], &asked->seconds)) ||
+        (asked->sets && (!is_count(words[3], &asked->parameter) || !is_real(words[4], &value))))
+        return usage();
+    asked->value = (float)value;
     return SHOWN;
 }
 
@@ -246,7 +308,7 @@ int main(int count, char **words)
     if (status == SHOWN)
         status = read_figure(&from, &read);
     if (status == SHOWN)
-        status = asked.uses ? list_uses(&read) : play(&read, &asked);
+        status = run(&read, &asked);
     free(read.numbers);
     free(read.plan);
     free(from.bytes);

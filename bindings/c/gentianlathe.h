@@ -49,7 +49,7 @@ extern "C" {
 
 /*
  * A player. It is plain data: copy it by assignment, save and restore it, read it as you like. Any content
- * is taken; one that no figure has is at most refused by a frame (number 9).
+ * is taken; one that no figure has is at most refused, by a frame or by gentianlathe_loops (number 9).
  *
  * A start makes one. A start that is refused makes the blank one: clock 0, speed 1, state 0, idle, all
  * parameters 0, all clip instances at start 0, rate 1, offset 0.
@@ -78,7 +78,8 @@ typedef char gentianlathe_player_has_952_bytes[sizeof(gentianlathe_player) == 95
 /*
  * An answer. Number 0 is the acceptance, and place is then 0. Any other number is a refusal; where more
  * than one applies, the first in the order of checks is told. A plan's words are checked front to back, and
- * the first missing or wrong one decides (1 to 5 and 14); then 6, 7, 9, 10. A text: 11, then 12.
+ * the first missing or wrong one decides (1 to 5 and 14); then 6, 7, 9; then, by what is asked for, 10 or
+ * 16 and 17. A text: 11, then 12.
  *
  *   number and what is wrong, as docs/FORMAT.md has it
  *   1   the plan ends too early (place: its length)
@@ -92,6 +93,8 @@ typedef char gentianlathe_player_has_952_bytes[sizeof(gentianlathe_player) == 95
  *   8   a parameter number is 32 or above (place: 0)
  *   9   the player's state, or its running transition's target, is not below S (place: 0)
  *   10  the output holds fewer than 16 floats a joint (place: 0)
+ *   16  there is no such state or node, or the node is no clip (place: 0)
+ *   17  the clip has no samples, or stops (place: 0)
  *   11  a line is malformed, missing or one too many, or has a count above its limit (place: that line, from 1)
  *   12  the plan or number slice is too short (place: 0)
  *
@@ -131,6 +134,19 @@ typedef struct gentianlathe_uses_answer {
 
 /* It comes by value, so a host that expects another size would have its stack written over. */
 typedef char gentianlathe_uses_answer_has_80_bytes[sizeof(gentianlathe_uses_answer) == 80 ? 1 : -1];
+
+/*
+ * How many whole loops a clip has played, and how many samples of the next. Number and place are an answer's, as above.
+ * Of a clip of N samples, loops * N + rest is the position rounded down, and rest is below N. Refused, both are 0.
+ */
+typedef struct gentianlathe_loops_answer {
+    size_t number;
+    size_t place;
+    size_t loops;
+    size_t rest;
+} gentianlathe_loops_answer;
+
+typedef char gentianlathe_loops_answer_has_32_bytes[sizeof(gentianlathe_loops_answer) == 32 ? 1 : -1];
 
 /*
  * Checks a figure and starts it: *player becomes a fresh player, in the plan's initial state.
@@ -197,6 +213,31 @@ gentianlathe_answer gentianlathe_page_frame(const uint16_t *plan, size_t plan_le
  */
 gentianlathe_uses_answer gentianlathe_uses(const uint16_t *plan, size_t plan_length,
                                            const float *numbers, size_t numbers_length);
+
+/*
+ * Tells how many whole loops the clip of a node has played at a time, and how many samples of the next: so editors time
+ * signs that repeat. States are numbered from 0, and so are the nodes of each, as the plan has them; any state may be
+ * asked about, not only the player's. The player is only read, and nothing is synchronised first: the position is that
+ * of the clip's instance as the player has it. One that is negative or NaN gives 0 and 0, and one of 2^64 or above
+ * counts as 2^64 - 1.
+ *
+ * The time is in seconds. Frames play clips at (float)(clock + ext * speed), so of the frame that was shown last:
+ *
+ *     float time = (float)(player.clock + ext * player.speed);
+ *     gentianlathe_loops_answer played =
+ *         gentianlathe_loops(plan, plan_length, numbers, numbers_length, &player, player.state, 0, time);
+ *     if (played.number == 0)
+ *         printf("%lu loops and %lu samples\n", (unsigned long)played.loops, (unsigned long)played.rest);
+ *
+ * Of a time to come the answer holds until a frame synchronises the clip to another rate.
+ *
+ * Refused with 1 to 7 or 14 for the figure; with 9 for the player; with 16 for a state or node that is not there, or a
+ * node that is no clip; with 17 for a clip that has no samples or stops.
+ */
+gentianlathe_loops_answer gentianlathe_loops(const uint16_t *plan, size_t plan_length,
+                                             const float *numbers, size_t numbers_length,
+                                             const gentianlathe_player *player,
+                                             size_t state, size_t node, float time);
 
 /*
  * Reads a figure's text. Accepted, the front of both slices holds plan and numbers, the answer tells how much

@@ -121,6 +121,12 @@ static void uses(void)
     last_mark = answer.states[STATES - 1];
 }
 
+/* The last state's first node plays a clip that loops, and comes behind all others. */
+static void loops(void)
+{
+    number = gentianlathe_loops(plan, words, numbers, NUMBERS, &player, STATES - 1, 0, 0.25f).number;
+}
+
 static void read_text(void)
 {
     static uint16_t read_words[WORDS];
@@ -161,7 +167,8 @@ int main(void)
         const char *name;
         void (*call)(void);
     } calls[] = {{"start", start}, {"update", update}, {"speed", speed}, {"set", set}, {"frame", frame},
-                 {"page_frame", page_frame}, {"uses", uses}, {"read_text", read_text}, {"the four sizes", sizes}};
+                 {"page_frame", page_frame}, {"uses", uses}, {"loops", loops}, {"read_text", read_text},
+                 {"the four sizes", sizes}};
     int failed = 0;
     make_figure();
     make_text();

@@ -6,7 +6,7 @@
 //! before a player exists.
 
 use crate::refusal::Refusal;
-use crate::sys::{self, RawAnswer, RawPlayer, RawUses};
+use crate::sys::{self, RawAnswer, RawLoops, RawPlayer, RawUses};
 use std::mem::size_of;
 use std::sync::Once;
 
@@ -127,6 +127,35 @@ pub fn uses(figure: Slices) -> (Result<(), Refusal>, RawUses) {
         place: uses.place,
     };
     (result(answer), uses)
+}
+
+/// The answer about the loops that a clip node's clip has played, and their count: 0 and 0 where refused.
+pub fn loops(
+    figure: Slices,
+    player: &RawPlayer,
+    state: usize,
+    node: usize,
+    time: f32,
+) -> (Result<(), Refusal>, RawLoops) {
+    let Slices { plan, numbers } = figure;
+    // SAFETY: two slices and a player to read; the answer comes by value.
+    let loops = unsafe {
+        sys::gentianlathe_loops(
+            plan.as_ptr(),
+            plan.len(),
+            numbers.as_ptr(),
+            numbers.len(),
+            player,
+            state,
+            node,
+            time,
+        )
+    };
+    let answer = RawAnswer {
+        number: loops.number,
+        place: loops.place,
+    };
+    (result(answer), loops)
 }
 
 /// How many words and numbers were written in front of the two slices.

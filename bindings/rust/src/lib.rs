@@ -27,7 +27,8 @@
 //! # }
 //! ```
 //!
-//! What a figure can ever use, and so also what nobody can see of it, is told by [`Figure::uses`].
+//! What a figure can ever use, and so also what nobody can see of it, is told by [`Figure::uses`], and how often a clip
+//! has gone round by [`Player::loops`].
 //!
 //! A call that is refused says why by a [`Refusal`] and changes nothing. No call panics, allocates (but for
 //! [`Figure::from_text`], and for the lists of [`Uses`]) or is undefined, whatever it is given. The evaluator keeps
@@ -45,6 +46,7 @@
 #[allow(unsafe_code)]
 mod calls;
 mod figure;
+mod loops;
 mod player;
 #[cfg(test)]
 #[allow(unsafe_code)]
@@ -55,6 +57,7 @@ mod sys;
 mod uses;
 
 pub use figure::{most_numbers, most_words, read_text, Figure, Written};
+pub use loops::Loops;
 pub use player::{ClipInstance, Player, PlayerParts, Transition, INSTANCES};
 pub use refusal::Refusal;
 pub use sys::{MAX_CLIPS, MAX_STATES, PARAMETERS};

@@ -2,6 +2,7 @@
 
 use crate::calls::{self, FrameKind, Slices};
 use crate::figure::Figure;
+use crate::loops::Loops;
 use crate::refusal::Refusal;
 use crate::sys::{RawPlayer, INSTANCE_FLOATS, PARAMETERS};
 
@@ -116,7 +117,8 @@ impl Player {
         Player::from_raw(player)
     }
 
-    /// A player with these parts. Any are taken: a state that the figure lacks is refused by the frame.
+    /// A player with these parts. Any are taken: a state that the figure lacks is refused by frames and by
+    /// [`Player::loops`].
     ///
     /// ```
     /// use gentianlathe::{Player, PlayerParts};
@@ -226,6 +228,45 @@ impl Player {
         output: &mut [f32],
     ) -> Result<(), Refusal> {
         calls::frame(FrameKind::Page, figure.slices(), &mut self.raw, ext, output)
+    }
+
+    /// How many whole loops the clip of a node has played at a time, and how many samples of the next. States are
+    /// numbered from 0, and so are the nodes of each; any state may be asked about, not only the player's.
+    ///
+    /// The time is in seconds. Frames play clips at `(clock + ext * speed) as f32`, so with ext 0 the clock is the time
+    /// to ask for. Nothing is synchronised first: the clip's instance counts as the player has it, so that a frame in
+    /// between may change the answer.
+    ///
+    /// ```
+    /// # use gentianlathe::{Figure, Loops, ROOT};
+    /// let plan = vec![1, 1, 0, 1, 0, ROOT, 4, 0, 1, 0, 0, 0, 0, 0]; // a clip of 4 samples that loops
+    /// let figure = Figure::new(plan, [vec![2.0], vec![0.0; 4 * 8]].concat())?; // 2 samples a second
+    /// let mut player = figure.start();
+    /// player.update(5.25);
+    /// // 10.5 samples in: twice round, and 2 of the third time.
+    /// let played = player.loops(&figure, player.state(), 0, player.clock() as f32)?;
+    /// assert_eq!(played, Loops { loops: 2, rest: 2 });
+    /// # Ok::<(), gentianlathe::Refusal>(())
+    /// ```
+    ///
+    /// # Errors
+    ///
+    /// [`Refusal::State`] where the figure lacks the player's state or its transition's target, then
+    /// [`Refusal::ClipNode`] where it lacks the state or the node that is asked about, or the node is no clip, then
+    /// [`Refusal::LoopingClip`] where the clip has no samples or stops.
+    pub fn loops(
+        &self,
+        figure: &Figure,
+        state: usize,
+        node: usize,
+        time: f32,
+    ) -> Result<Loops, Refusal> {
+        let (answer, played) = calls::loops(figure.slices(), &self.raw, state, node, time);
+        answer?;
+        Ok(Loops {
+            loops: played.loops,
+            rest: played.rest,
+        })
     }
 
     /// Seconds played.

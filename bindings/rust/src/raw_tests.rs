@@ -1,8 +1,8 @@
-//! The layouts, fields that mean nothing, whole answers, every mark: what only the raw calls can show.
+//! The layouts, fields that mean nothing, whole answers, every mark and count: what only the raw calls can show.
 
 use crate::calls::{self, FrameKind, Slices};
 use crate::player::Player;
-use crate::sys::{self, RawPlayer, RawTextAnswer, RawUses};
+use crate::sys::{self, RawLoops, RawPlayer, RawTextAnswer, RawUses};
 use std::mem::{offset_of, size_of};
 
 const PLAN: [u16; 14] = [1, 1, 0, 1, 0, 255, 1, 0, 1, 0, 0, 0, 0, 0];
@@ -95,6 +95,14 @@ fn a_refused_readings_counts_are_0() {
 }
 
 #[test]
+fn layout_of_the_loops() {
+    assert_eq!(size_of::<RawLoops>(), 32);
+    assert_eq!(offset_of!(RawLoops, place), 8);
+    assert_eq!(offset_of!(RawLoops, loops), 16);
+    assert_eq!(offset_of!(RawLoops, rest), 24);
+}
+
+#[test]
 fn layout_of_the_marks() {
     assert_eq!(size_of::<RawUses>(), 80);
     assert_eq!(offset_of!(RawUses, states), 16);
@@ -177,4 +185,42 @@ fn marks_of_damaged_figures() {
         assert!(!put(&BRANCHED, &BRANCHED_NUMBERS[..count]));
     }
     assert!(!put(&[&BRANCHED[..], &[0]].concat(), &BRANCHED_NUMBERS));
+}
+
+/// The whole answer about a node of the figure's only state, at 2.5 seconds.
+fn loops(figure: Slices, player: &RawPlayer, node: usize) -> [usize; 4] {
+    let (_, told) = calls::loops(figure, player, 0, node, 2.5);
+    [told.number, told.place, told.loops, told.rest]
+}
+
+/// Damaged in each way that a start refuses, it is refused alike, before the player and the node are judged.
+#[test]
+fn a_refused_questions_counts_are_0() {
+    let (_, fresh) = calls::start(FIGURE);
+    let foreign = RawPlayer { state: 1, ..fresh };
+    assert_eq!(loops(FIGURE, &fresh, 0), [0, 0, 2, 0]);
+    assert_eq!(loops(FIGURE, &fresh, 1), [16, 0, 0, 0]);
+    assert_eq!(loops(FIGURE, &foreign, 1), [9, 0, 0, 0]);
+    for word in 0..PLAN.len() {
+        for value in [2, 17, 254, 4097, 65534] {
+            let mut plan = PLAN;
+            plan[word] = value;
+            let figure = Slices {
+                plan: &plan,
+                numbers: &NUMBERS,
+            };
+            let told = match calls::start(figure).0 {
+                Ok(()) => [9, 0, 0, 0],
+                Err(refusal) => [refusal.number(), refusal.place(), 0, 0],
+            };
+            assert_eq!(loops(figure, &foreign, 1), told, "{plan:?}");
+        }
+    }
+    let mut plan = PLAN;
+    plan[7] = 1;
+    let stopping = Slices {
+        plan: &plan,
+        numbers: &NUMBERS,
+    };
+    assert_eq!(loops(stopping, &fresh, 0), [17, 0, 0, 0]);
 }

@@ -62,6 +62,10 @@ pub enum Refusal {
         /// That word; the clip's N is the word before it.
         word: usize,
     },
+    /// 16: the figure has no such state or node, or the node is no clip.
+    ClipNode,
+    /// 17: the clip has no samples, or stops, and so it has no loops.
+    LoopingClip,
     /// A refusal that this version of the crate does not know.
     Other {
         /// Its number.
@@ -91,6 +95,8 @@ impl Refusal {
             (11, line) => Refusal::Line { line },
             (12, 0) => Refusal::Slices,
             (14, word) => Refusal::Ending { word },
+            (16, 0) => Refusal::ClipNode,
+            (17, 0) => Refusal::LoopingClip,
             (number, place) => Refusal::Other { number, place },
         })
     }
@@ -111,6 +117,8 @@ impl Refusal {
             Refusal::Line { .. } => 11,
             Refusal::Slices => 12,
             Refusal::Ending { .. } => 14,
+            Refusal::ClipNode => 16,
+            Refusal::LoopingClip => 17,
             Refusal::Other { number, .. } => number,
         }
     }
@@ -131,7 +139,9 @@ impl Refusal {
             | Refusal::Parameter
             | Refusal::State
             | Refusal::Output
-            | Refusal::Slices => 0,
+            | Refusal::Slices
+            | Refusal::ClipNode
+            | Refusal::LoopingClip => 0,
         }
     }
 }
@@ -191,6 +201,14 @@ impl fmt::Display for Refusal {
                 "line {line} of the text is malformed, missing or one too many, or has a count above its limit"
             ),
             Refusal::Slices => write!(f, "the slices are too short for the text's plan and numbers"),
+            Refusal::ClipNode => write!(
+                f,
+                "there is no such clip node: name a state of the figure, and a node of it that plays a clip"
+            ),
+            Refusal::LoopingClip => write!(
+                f,
+                "the clip is empty or stops: only a clip with samples and the ending 0 has loops to count"
+            ),
             Refusal::Other { place, .. } => write!(f, "unknown to this version of the crate, at place {place}"),
         }
     }

@@ -81,6 +81,18 @@ pub struct RawUses {
 const _: () = assert!(std::mem::size_of::<RawUses>() == 80);
 const _: () = assert!(std::mem::align_of::<RawUses>() == 8);
 
+/// How many whole loops a clip has played, and how many samples of the next. Where refused, both are 0.
+#[repr(C)]
+#[derive(Clone, Copy, Debug, PartialEq, Eq)]
+pub struct RawLoops {
+    pub number: usize,
+    pub place: usize,
+    pub loops: usize,
+    pub rest: usize,
+}
+
+const _: () = assert!(std::mem::size_of::<RawLoops>() == 32);
+
 // Pointers are valid for the lengths beside them, not null, aligned, and none overlaps another.
 extern "C" {
     pub fn gentianlathe_start(
@@ -125,6 +137,17 @@ extern "C" {
         numbers: *const f32,
         numbers_length: usize,
     ) -> RawUses;
+
+    pub fn gentianlathe_loops(
+        plan: *const u16,
+        plan_length: usize,
+        numbers: *const f32,
+        numbers_length: usize,
+        player: *const RawPlayer,
+        state: usize,
+        node: usize,
+        time: f32,
+    ) -> RawLoops;
 
     pub fn gentianlathe_read_text(
         text: *const u8,

@@ -4,7 +4,7 @@
 mod common;
 
 use common::{bits, example_texts, random_figure, random_parts, seen, Random};
-use gentianlathe::{most_numbers, most_words, read_text, uses, Figure, Player, ROOT};
+use gentianlathe::{most_numbers, most_words, read_text, uses, Figure, Player, Refusal, ROOT};
 
 /// Reads a text in every way, and shows it if it is a figure's.
 fn put(text: &[u8], random: &mut Random) -> bool {
@@ -33,6 +33,9 @@ fn put(text: &[u8], random: &mut Random) -> bool {
                 .frame(&figure, random.double(), &mut output)
                 .expect("a fresh player");
             assert!(figure.uses().states[figure.start().state()]);
+            // A state's first node has no earlier one for an input, so it plays a clip.
+            let played = figure.start().loops(&figure, 0, 0, random.float());
+            assert!(matches!(played, Ok(_) | Err(Refusal::LoopingClip)));
             if written.is_ok() {
                 assert_eq!(figure.plan(), &plan_after[..kept_words]);
                 assert_eq!(bits(figure.numbers()), bits(&floats_after[..kept_numbers]));
@@ -177,7 +180,7 @@ fn any_plan_is_answered() {
 
 /// One random call; whether it was refused.
 fn call(random: &mut Random, figure: &Figure, player: &mut Player, output: &mut [f32]) -> bool {
-    let answer = match random.below(5) {
+    let answer = match random.below(6) {
         0 => {
             player.update(random.double());
             Ok(())
@@ -188,6 +191,11 @@ fn call(random: &mut Random, figure: &Figure, player: &mut Player, output: &mut 
         }
         2 => player.set_parameter(random.below(40), random.float()),
         3 => player.frame(figure, random.double(), output),
+        4 => {
+            let [state, node] = [random.below(5), random.below(32)];
+            let answer = player.loops(figure, state, node, random.float());
+            answer.map(|_| ())
+        }
         _ => player.page_frame(figure, random.double(), output),
     };
     answer.is_err()

@@ -385,12 +385,11 @@ fn rows_of_the_table() -> Vec<(usize, &'static str)> {
 #[test]
 fn as_many_as_the_table_has() {
     let rows = rows_of_the_table();
-    let mut numbers: Vec<usize> = rows.iter().map(|row| row.0).collect();
-    numbers.sort_unstable(); // the table's order is that of judging
-    assert_eq!(numbers, (1..=rows.len()).collect::<Vec<_>>());
-    for (number, from) in rows {
+    for number in 1..100 {
+        let told: Vec<_> = rows.iter().filter(|row| row.0 == number).collect();
         let refusal = Refusal::from_answer(number, 0).expect("a refusal");
-        let unknown = matches!(refusal, Refusal::Other { .. });
-        assert_eq!(unknown, from == "program", "{number} from {from}");
+        let known = usize::from(!matches!(refusal, Refusal::Other { .. }));
+        let given = told.iter().filter(|row| row.1 != "program").count();
+        assert_eq!(known, given, "{number}: {told:?}");
     }
 }

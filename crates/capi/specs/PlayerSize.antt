@@ -1,4 +1,4 @@
--- The bytes of a host's player, and of the answer about what a figure can use. They come from the structs' own types, by the memory that every proof here speaks of: each field begins at the next multiple
+-- The bytes of a host's player, and of the answers about what a figure can use and about loops. They come from the structs' own types, by the memory that every proof here speaks of: each field begins at the next multiple
 -- of its alignment, and the whole is a multiple of the largest. Definitions only.
 use Prim.Native.Nat.{ℕ}
 use mathlib.Core.Option.{Option, none, some}
@@ -6,6 +6,7 @@ use mir.Syntax.{Ty}
 use prog.Memory.{size, fieldOf}
 use Rattle.host_player.proofs.HostPlayer.Laws.{mir as player}
 use Rattle.host_uses.proofs.HostUses.Laws.{mir as uses}
+use Rattle.host_loops.proofs.HostLoops.Laws.{mir as loops}
 
 abbrev pub playerBytes : ℕ
 playerBytes = size player
@@ -24,3 +25,10 @@ usesBytes = size uses
 
 abbrev pub usesPlace : ℕ → ℕ
 usesPlace k = placeIn (fieldOf uses k)
+
+-- and by `gentianlathe_loops`
+abbrev pub loopsBytes : ℕ
+loopsBytes = size loops
+
+abbrev pub loopsPlace : ℕ → ℕ
+loopsPlace k = placeIn (fieldOf loops k)

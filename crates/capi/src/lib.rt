@@ -1,5 +1,7 @@
 // The static library: the calls for hosts in C and Rust. A player stays in the host's memory, as a flat struct. No call
 // asks anything of its content.
+use host_loops::HostLoops;
+use host_loops::host_loops;
 use host_player::HostAnswer;
 use host_player::HostParts;
 use host_player::HostPlayer;
@@ -28,6 +30,7 @@ ghost use Rattle.model.specs.Program.{numberBytes};
 ghost use Rattle.host_player.specs.HostPromises.{HostStarted, HostUpdated, HostSpeedSet, HostParameterSet};
 ghost use Rattle.host_player.specs.HostPromises.{HostFramed, HostTextRead};
 ghost use Rattle.host_uses.specs.HostUses.{HostUsesFound};
+ghost use Rattle.host_loops.specs.HostLoops.{HostLoopsCounted};
 ghost use Rattle.capi.specs.PlayerSize.{playerBytes};
 
 // ---- start, update, speed, set
@@ -155,6 +158,24 @@ pub extern "C" fn gentianlathe_uses(plan: &[u16], numbers: &[f32]) -> HostUses
     ensures { λ r. ⌜ HostUsesFound (now (plan .entry)) (now (numbers .entry)) r ⌝ }
 {
     host_uses(plan, numbers)
+}
+
+// ---- loops played, and the rest
+
+#[no_mangle]
+pub extern "C" fn gentianlathe_loops(
+    plan: &[u16],
+    numbers: &[f32],
+    player: &HostPlayer,
+    state: usize,
+    node: usize,
+    time: f32,
+) -> HostLoops
+    ensures { λ r. ⌜
+        HostLoopsCounted (now (plan .entry)) (now (numbers .entry)) (now (player .entry)) state node time r
+        ⌝ }
+{
+    host_loops(plan, numbers, *player, state, node, time)
 }
 
 // ---- text

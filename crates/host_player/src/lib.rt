@@ -122,7 +122,7 @@ fn pack_parts(parts: Parts) -> HostParts
     }
 }
 
-fn unpack(flat: HostPlayer) -> Player
+pub fn unpack(flat: HostPlayer) -> Player
     ensures { λ r. ⌜ r ≡ unpacked flat ⌝ }
 {
     let parameters = flat.parameters;

@@ -70,7 +70,7 @@ impl Random {
 pub fn example_texts() -> Vec<Vec<u8>> {
     let folder = concat!(env!("CARGO_MANIFEST_DIR"), "/../../examples");
     let names = [
-        "printed", "arm", "hand", "signs", "turn", "held", "pause", "face",
+        "printed", "arm", "hand", "signs", "turn", "held", "pause", "face", "wave",
     ];
     let path = |name: &&str| format!("{folder}/{name}.figure");
     names

@@ -1,0 +1,2 @@
+-- What hosts are told
+pub mod HostLoops
