@@ -1,7 +1,7 @@
 //! The archive's calls, by their C names, on buffers of their own.
 
 use crate::draft::{Draft, VALUES};
-use crate::sys::{self, RawAnswer, RawPlayer, RawUses};
+use crate::sys::{self, RawAnswer, RawLoops, RawPlayer, RawUses};
 use gentianlathe as _; // links the archive
 
 const ACCEPTED: RawAnswer = RawAnswer {
@@ -76,6 +76,26 @@ impl Archive {
         };
         assert_eq!(uses.number, 0);
         uses
+    }
+
+    /// The loops that a clip node's clip has played.
+    pub fn loops(&self, state: usize, node: usize, time: f32) -> RawLoops {
+        let (plan, numbers) = (&self.plan, &self.numbers);
+        // SAFETY: two slices and a player to read.
+        let loops = unsafe {
+            sys::gentianlathe_loops(
+                plan.as_ptr(),
+                plan.len(),
+                numbers.as_ptr(),
+                numbers.len(),
+                &self.player,
+                state,
+                node,
+                time,
+            )
+        };
+        assert_eq!(loops.number, 0);
+        loops
     }
 
     pub fn in_transition(&self) -> bool {

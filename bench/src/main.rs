@@ -8,6 +8,7 @@
 
 mod archive;
 mod draft;
+mod loops;
 mod measure;
 mod pages;
 mod reference;
@@ -314,6 +315,7 @@ fn main() {
     many_joints(time);
     pages::pages(time);
     uses::uses(time);
+    loops::loops(time);
     endings(time);
     texts(time);
 }
