@@ -3,7 +3,7 @@ use Prim.Native.Nat.{ℕ, _+_, _-_, _≤_}
 use native.Mathlib.Omega.{arith}
 use mathlib.Core.Path.{_≡_, refl, sym, ap, _∙_}
 use mathlib.Core.Bool.{Bool, true, false, cond}
-use mathlib.Core.List.{List, []}
+use mathlib.Core.List.{List, [], _∷_}
 use lib.Ieee.{Float}
 use lib.ListN.{length, drop, length-drop, drop-of-length-le}
 use lib.Dec.{eqb, leb}
@@ -17,9 +17,8 @@ use Rattle.model.specs.Run.{Call, Update, Speed}
 use Rattle.model.specs.Text.{front, comma, lineFeed, maxWord, baseOf, digitCount, isField}
 use Rattle.model.specs.Text.{Field, none, field, fieldIn, begins}
 use Rattle.fields.specs.Wide.{wideBitsIn}
-use Rattle.calls.specs.CallText.{CallLine, malformed, line, behindComma, behindField, wideField, bitsField, decimalField}
-use Rattle.calls.specs.CallText.{updateName, speedName, setName, frameName, pageName}
-use Rattle.calls.specs.CallText.{lineEnd, timeLine, setLine, frameLine, callIn}
+use Rattle.calls.specs.CallText.{CallLine, malformed, line, behindComma, behindField, bitsField, decimalField}
+use Rattle.calls.specs.CallText.{lineEnd, timeLine, setLine, frameLine, loopsLine, Kind, named, lineIn, callIn}
 use Rattle.calls.specs.Read.{callPlaced, callAt}
 
 -- a text's rear part
@@ -87,11 +86,18 @@ time-rear make s = then-rear _ (comma-rear wideBitsIn wide-rear s) (λ d rest. e
 decimal-rear : (s : List ℕ) → FieldRear s (decimalField s)
 decimal-rear = comma-rear (fieldIn (Decimal maxWord)) (field-rear (Decimal maxWord))
 
+bits-rear : (s : List ℕ) → FieldRear s (bitsField s)
+bits-rear = comma-rear (fieldIn Bits) (field-rear Bits)
+
 set-rear : (s : List ℕ) → LineRear s (setLine s)
 unfolding setLine
-set-rear s =
+set-rear s = then-rear _ (decimal-rear s) (λ n t. then-rear _ (bits-rear t) (λ v rest. end-rear _ rest))
+
+loops-rear : (s : List ℕ) → LineRear s (loopsLine s)
+unfolding loopsLine
+loops-rear s =
     then-rear _ (decimal-rear s)
-    (λ n t. then-rear _ (comma-rear (fieldIn Bits) (field-rear Bits) t) (λ v rest. end-rear _ rest))
+    (λ k t. then-rear _ (decimal-rear t) (λ n u. then-rear _ (bits-rear u) (λ v rest. end-rear _ rest)))
 
 frame-rear : (kind : FrameKind) (s : List ℕ) → LineRear s (frameLine kind s)
 unfolding frameLine
@@ -100,20 +106,26 @@ frame-rear kind s =
     (λ d t. then-rear _ (decimal-rear t) (λ n rest. end-rear _ rest))
 
 -- a line with a name, or else others
-named-rear : (name : List ℕ) (f : List ℕ → CallLine) {other : CallLine} (s : List ℕ) → ((t : List ℕ) → LineRear t (f t))
-    → LineRear s other → LineRear s (cond (begins name s) (f (drop (length name) s)) other)
-named-rear name f s rear =
+named-rear : (name : List ℕ) (behind : List ℕ → CallLine) (others : List Kind) (s : List ℕ) → ((t : List ℕ) → LineRear t (behind t))
+    → LineRear s (lineIn others s) → LineRear s (lineIn (named name behind ∷ others) s)
+unfolding lineIn
+named-rear name behind others s rear =
     either (LineRear s) (begins name s) (later-line (dropped s (length name)) (rear (drop (length name) s)))
+
+none-rear : (s : List ℕ) → LineRear s (lineIn [] s)
+unfolding lineIn
+none-rear s = no-line
 
 call-rear : (s : List ℕ) → LineRear s (callIn s)
 unfolding callIn
 call-rear s =
-    named-rear updateName (timeLine Update) s (time-rear Update)
-    (named-rear speedName (timeLine Speed) s (time-rear Speed)
-    (named-rear setName setLine s set-rear
-    (named-rear frameName (frameLine Ordinary) s (frame-rear Ordinary)
-    (named-rear pageName (frameLine Page) s (frame-rear Page)
-    no-line))))
+    named-rear _ _ _ s (time-rear Update)
+    (named-rear _ _ _ s (time-rear Speed)
+    (named-rear _ _ _ s set-rear
+    (named-rear _ _ _ s (frame-rear Ordinary)
+    (named-rear _ _ _ s (frame-rear Page)
+    (named-rear _ _ _ s loops-rear
+    (none-rear s))))))
 
 -- a rear part begins as many places before the end as it has
 rear-place : (s : List ℕ) (k : ℕ) → drop (length s - length (drop k s)) s ≡ drop k s

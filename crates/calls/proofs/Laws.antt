@@ -7,19 +7,17 @@ use mathlib.Core.Path.{_≡_, refl, sym, _∙_}
 use mathlib.Core.Bool.{Bool, true, false, cond}
 use mathlib.Core.List.{List, [], _∷_}
 use lib.Dec.{eqb}
-use lib.Ieee.{Float}
 use lib.ListN.{length, getD, drop, length-drop, drop-of-length-le}
 use lib.Seq.{drop-cons}
 use borrow.Author.Tests.{eq-eqb, ne-eqb}
 use Rattle.model.specs.Run as Run
-use Rattle.model.specs.declared.FrameKind.{FrameKind}
 use Rattle.model.specs.Text.{lineFeed}
 use Rattle.calls.specs.declared.Call.{Call}
-use Rattle.calls.specs.declared.Call.the-variants.{Malformed, Update, Speed, Set, Frame}
+use Rattle.calls.specs.declared.Call.the-variants.{Malformed, Update, Speed, Set, Frame, Loops}
 use Rattle.calls.specs.declared.CallAt.{CallAt}
 use Rattle.calls.specs.CallText.{CallLine, malformed, line, callIn, CallList, badLine, calls, withCall, lineThen, readCalls, lineCount, callList}
 use Rattle.calls.specs.Read.{lineOf, isMalformed, lineRead, firstMalformed}
-use Rattle.calls.proofs.LineLaws.{malformed-read, malformed-line, call-spends}
+use Rattle.calls.proofs.LineLaws.{malformed-read, call-spends}
 
 -- ---- what the program's call stands for
 
@@ -29,6 +27,7 @@ is-malformed (Update d) e = cc
 is-malformed (Speed v) e = cc
 is-malformed (Set n v) e = cc
 is-malformed (Frame kind ext n) e = cc
+is-malformed (Loops s n t) e = cc
 
 -- a call that is not malformed is one of the text's
 pub record Called (call : Call) : Type 0 where
@@ -42,42 +41,7 @@ called (Update d) e = record { means = Run.Update d; reading = λ rest. refl }
 called (Speed v) e = record { means = Run.Speed v; reading = λ rest. refl }
 called (Set n v) e = record { means = Run.Set n v; reading = λ rest. refl }
 called (Frame kind ext n) e = record { means = Run.Frame kind ext n; reading = λ rest. refl }
-
--- a line that was read: its call, kind by kind, and what is left behind it
-module _ (text : List ℕ) (r : CallAt) {c : Run.Call} {rest : List ℕ} (read : lineRead text r ≡ line c rest) where
-  pub call-well : isMalformed (r .call) ≡ false
-  unfolding lineRead lineOf
-  call-well = at (r .call) read
-    where
-      at : (call : Call) → lineOf call (drop (r .end) text) ≡ line c rest → isMalformed call ≡ false
-      at Malformed e = absurd (malformed-line e)
-      at (Update d) e = refl
-      at (Speed v) e = refl
-      at (Set n v) e = refl
-      at (Frame kind ext n) e = refl
-
-  call-line : line (called (r .call) call-well .means) (drop (r .end) text) ≡ line c rest
-  unfolding lineRead
-  call-line = sym (called (r .call) call-well .reading (drop (r .end) text)) ∙ read
-
-  pub call-rest : rest ≡ drop (r .end) text
-  call-rest = let e = call-line in cc
-
-  pub call-update : {d : Float} → r .call ≡ Update d → c ≡ Run.Update d
-  unfolding lineRead lineOf
-  call-update e = let p = rw e at read in cc
-
-  pub call-speed : {v : Float} → r .call ≡ Speed v → c ≡ Run.Speed v
-  unfolding lineRead lineOf
-  call-speed e = let p = rw e at read in cc
-
-  pub call-set : {n : ℕ} {v : Float} → r .call ≡ Set n v → c ≡ Run.Set n v
-  unfolding lineRead lineOf
-  call-set e = let p = rw e at read in cc
-
-  pub call-frame : {kind : FrameKind} {ext : Float} {n : ℕ} → r .call ≡ Frame kind ext n → c ≡ Run.Frame kind ext n
-  unfolding lineRead lineOf
-  call-frame e = let p = rw e at read in cc
+called (Loops s n t) e = record { means = Run.Loops s n t; reading = λ rest. refl }
 
 -- ---- a list, from its front on
 

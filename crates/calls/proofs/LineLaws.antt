@@ -24,10 +24,10 @@ use Rattle.fields.specs.Wide.{wideBitsIn, wideBitsAt}
 use Rattle.fields.proofs.Bytes.{there, front-at}
 use Rattle.fields.proofs.Laws.{field-found, wide-found}
 use Rattle.calls.specs.declared.Call.{Call}
-use Rattle.calls.specs.declared.Call.the-variants.{Malformed, Update, Speed, Set, Frame}
+use Rattle.calls.specs.declared.Call.the-variants.{Malformed, Update, Speed, Set, Frame, Loops}
 use Rattle.calls.specs.declared.CallAt.{CallAt}
-use Rattle.calls.specs.CallText.{updateName, speedName, setName, frameName, pageName, CallLine, malformed, line}
-use Rattle.calls.specs.CallText.{behindComma, behindField, wideField, bitsField, decimalField, lineEnd, timeLine, setLine, frameLine, callIn}
+use Rattle.calls.specs.CallText.{CallLine, malformed, line, behindComma, behindField, wideField, bitsField, decimalField}
+use Rattle.calls.specs.CallText.{lineEnd, timeLine, setLine, frameLine, loopsLine, Kind, named, kinds, lineIn, callIn}
 use Rattle.calls.specs.Read.{timedCall, timeOf, behind, lineOf, lineEndOf, isMalformed, lineRead, asCall, noCall, callPlaced, callAt, CallRead}
 
 -- ---- fields
@@ -121,29 +121,25 @@ module _ (text : List ℕ) where
   there-and-back (Speed value) end inside nowhere = ap (placed (Speed value)) (omega (arith, length-drop end text))
   there-and-back (Set n v) end inside nowhere = ap (placed (Set n v)) (omega (arith, length-drop end text))
   there-and-back (Frame kind ext n) end inside nowhere = ap (placed (Frame kind ext n)) (omega (arith, length-drop end text))
+  there-and-back (Loops s n t) end inside nowhere = ap (placed (Loops s n t)) (omega (arith, length-drop end text))
 
-  pub call-there : (at : ℕ) {r : CallAt} → CallRead text (callIn (drop at text)) r → (r ≡ callAt text at) × (lineRead text r ≡ callIn (drop at text))
+  -- the line at a place, as a call and by what it says
+  abbrev pub There : ℕ → CallAt → Type 0
+  There at r = (r ≡ callAt text at) × (lineRead text r ≡ callIn (drop at text))
+
+  call-there : (at : ℕ) {r : CallAt} → CallRead text (callIn (drop at text)) r → There at r
   unfolding lineRead
   call-there at {r} c = (there-and-back (r .call) (r .end) (c .inside) (c .nowhere) ∙ ap (callPlaced text) (c .reading), c .reading)
 
--- the field of a line was read to f, and `more` follows
-module _ (text : List ℕ) {f : Field} {s : Text.Field} (read : found text f ≡ s) (more : ℕ → List ℕ → CallLine) where
-  pub without : f ≡ Nothing → malformed ≡ behindField s more
+-- a line l whose next field was read to f, with `more` behind it
+module _ (text : List ℕ) {f : Field} {s : Text.Field} (more : ℕ → List ℕ → CallLine) {l : CallLine} (is : behindField s more ≡ l) (read : found text f ≡ s) where
+  pub without : f ≡ Nothing → malformed ≡ l
   unfolding found behindField
-  without e = rw (← read, e)
+  without e = rw (← is, ← read, e)
 
-  pub with-value : {v end : ℕ} → f ≡ Value v end → more v (drop end text) ≡ behindField s more
+  pub with-value : {v end : ℕ} → f ≡ Value v end → more v (drop end text) ≡ l
   unfolding found behindField
-  with-value e = rw (← read, e)
-
--- and the field behind it to g: `later` follows that
-module _ (text : List ℕ) {f g : Field} {s t : Text.Field} (more later : ℕ → List ℕ → CallLine) {v end : ℕ} (first : found text f ≡ s) (is : f ≡ Value v end)
-    (second : found text g ≡ t) (next : more v (drop end text) ≡ behindField t later) where
-  pub without-second : g ≡ Nothing → malformed ≡ behindField s more
-  without-second e = without text second later e ∙ sym next ∙ with-value text first more is
-
-  pub with-both : {w stop : ℕ} → g ≡ Value w stop → later w (drop stop text) ≡ behindField s more
-  with-both e = with-value text second later e ∙ sym next ∙ with-value text first more is
+  with-value e = rw (← is, ← read, e)
 
 -- the program's call is the text's
 pub ends : (call : Call) {c : Run.Call} → ((rest : List ℕ) → lineOf call rest ≡ line c rest) → (s : List ℕ) → lineEndOf call s ≡ lineEnd c s
@@ -164,58 +160,36 @@ is-absent : (t : Bool) (n r : ℕ) → r ≡ cond t n 0 → 0 < n → r ≤ 0 �
 is-absent true n r is some nothing = absurd (omega arith)
 is-absent false n r is some nothing = refl
 
--- names that do not stand at a place, the last tested first
-pub data Misses (text : List ℕ) (at : ℕ) : List (List ℕ) → Type 0 where
-  none-tested : Misses text at []
-  missed : {name : List ℕ} {names : List (List ℕ)} → begins name (drop at text) ≡ false → Misses text at names → Misses text at (name ∷ names)
+-- the line at a place is of one of these kinds: the names of others do not stand there
+pub record Among (text : List ℕ) (at : ℕ) (kinds : List Kind) : Type 0 where
+  pub line : lineIn kinds (drop at text) ≡ callIn (drop at text)
 
-module _ {text : List ℕ} {at : ℕ} {r : ℕ} where
-  pub one-missed : (name : List ℕ) {names : List (List ℕ)} → 0 < length name → Looked name text at r → r ≤ 0 → Misses text at names → Misses text at (name ∷ names)
-  one-missed name some looked nothing = missed (is-absent _ _ r looked some nothing)
+pub of-any : (text : List ℕ) (at : ℕ) → Among text at kinds
+unfolding callIn
+of-any text at = record { line = refl }
 
-  pub update-named : Misses text at [] → Looked updateName text at r → 0 < r → timeLine Run.Update (drop (at + r) text) ≡ callIn (drop at text)
-  unfolding callIn
-  update-named none-tested looked some =
-      let e = is-there (begins updateName (drop at text)) _ r looked some in
-      rw (e .1, e .0, drop-drop)
+module _ {text : List ℕ} {at r : ℕ} {name : List ℕ} {behind : List ℕ → CallLine} {others : List Kind} (among : Among text at (named name behind ∷ others))
+    (looked : Looked name text at r) where
+  pub of-this : {c : CallAt} → 0 < r → CallRead text (behind (drop (at + r) text)) c → There text at c
+  unfolding lineIn
+  of-this some read =
+      let e = is-there (begins name (drop at text)) _ r looked some in
+      call-there text at (same-read read (rw (← among .line, e .1, e .0, drop-drop)))
 
-  pub speed-named : Misses text at (updateName ∷ []) → Looked speedName text at r → 0 < r → timeLine Run.Speed (drop (at + r) text) ≡ callIn (drop at text)
-  unfolding callIn
-  speed-named (missed u none-tested) looked some =
-      let e = is-there (begins speedName (drop at text)) _ r looked some in
-      rw (u, e .1, e .0, drop-drop)
+  pub of-another : 0 < length name → r ≤ 0 → Among text at others
+  unfolding lineIn
+  of-another some nothing = record { line = rw (is-absent (begins name (drop at text)) _ r looked some nothing) at (among .line) }
 
-  pub set-named : Misses text at (speedName ∷ updateName ∷ []) → Looked setName text at r → 0 < r → setLine (drop (at + r) text) ≡ callIn (drop at text)
-  unfolding callIn
-  set-named (missed p (missed u none-tested)) looked some =
-      let e = is-there (begins setName (drop at text)) _ r looked some in
-      rw (u, p, e .1, e .0, drop-drop)
-
-  pub frame-named : Misses text at (setName ∷ speedName ∷ updateName ∷ []) → Looked frameName text at r → 0 < r
-      → frameLine Ordinary (drop (at + r) text) ≡ callIn (drop at text)
-  unfolding callIn
-  frame-named (missed t (missed p (missed u none-tested))) looked some =
-      let e = is-there (begins frameName (drop at text)) _ r looked some in
-      rw (u, p, t, e .1, e .0, drop-drop)
-
-  pub page-named : Misses text at (frameName ∷ setName ∷ speedName ∷ updateName ∷ []) → Looked pageName text at r → 0 < r
-      → frameLine Page (drop (at + r) text) ≡ callIn (drop at text)
-  unfolding callIn
-  page-named (missed f (missed t (missed p (missed u none-tested)))) looked some =
-      let e = is-there (begins pageName (drop at text)) _ r looked some in
-      rw (u, p, t, f, e .1, e .0, drop-drop)
-
-module _ {text : List ℕ} {at : ℕ} where
-  pub unnamed : Misses text at (pageName ∷ frameName ∷ setName ∷ speedName ∷ updateName ∷ []) → malformed ≡ callIn (drop at text)
-  unfolding callIn
-  unnamed (missed g (missed f (missed t (missed p (missed u none-tested))))) = rw (u, p, t, f, g)
+pub of-none : {text : List ℕ} {at : ℕ} {c : CallAt} → Among text at [] → c ≡ noCall → There text at c
+unfolding lineIn
+of-none {text} {at} among e = call-there text at (none-read e (among .line))
 
 -- ---- a line uses up text
 
 none-field : {v : ℕ} {rest : List ℕ} → none ≡ field v rest → ⊥
 none-field e = let z : _≡_ {A = ℕ} 0 1 = cc in omega arith
 
-pub malformed-line : {c : Run.Call} {rest : List ℕ} → malformed ≡ line c rest → ⊥
+malformed-line : {c : Run.Call} {rest : List ℕ} → malformed ≡ line c rest → ⊥
 malformed-line e = let z : _≡_ {A = ℕ} 0 1 = cc in omega arith
 
 comma-field : (read : List ℕ → Text.Field) (s : List ℕ) {v : ℕ} {rest : List ℕ} → behindComma read s ≡ field v rest → read (drop 1 s) ≡ field v rest
@@ -253,9 +227,6 @@ comma-keeps read keeps s v rest e = omega (arith, length-drop 1 s, keeps (drop 1
 abbrev Spends : (List ℕ → CallLine) → Type 0
 Spends f = (s : List ℕ) (c : Run.Call) (rest : List ℕ) → f s ≡ line c rest → length rest < length s
 
-malformed-spends : Spends (λ s. malformed)
-malformed-spends s c rest e = absurd (malformed-line e)
-
 end-spends : (call : Run.Call) → Spends (lineEnd call)
 unfolding lineEnd
 end-spends call s c rest e = at (eqb (front s) lineFeed) refl e
@@ -275,12 +246,13 @@ then-spends read more keeps spends s c rest e = at (read s) refl e
     at none h e = absurd (malformed-line e)
     at (field v left) h e = omega (arith, keeps s v left h, spends v left c rest e)
 
-name-spends : (name : List ℕ) (f other : List ℕ → CallLine) → Spends f → Spends other → Spends (λ s. cond (begins name s) (f (drop (length name) s)) (other s))
-name-spends name f other spends others s c rest e = at (begins name s) e
+named-spends : (name : List ℕ) (behind : List ℕ → CallLine) (others : List Kind) → Spends behind → Spends (lineIn others) → Spends (lineIn (named name behind ∷ others))
+unfolding lineIn
+named-spends name behind others spends later s c rest e = at (begins name s) e
   where
-    at : (t : Bool) → cond t (f (drop (length name) s)) (other s) ≡ line c rest → length rest < length s
+    at : (t : Bool) → cond t (behind (drop (length name) s)) (lineIn others s) ≡ line c rest → length rest < length s
     at true e = omega (arith, length-drop (length name) s, spends (drop (length name) s) c rest e)
-    at false e = others s c rest e
+    at false e = later s c rest e
 
 wide-then : (more : ℕ → List ℕ → CallLine) → ((v : ℕ) → Spends (more v)) → Spends (λ s. behindField (wideField s) more)
 wide-then more = then-spends wideField more (comma-keeps wideBitsIn wide-keeps)
@@ -291,16 +263,33 @@ decimal-then more = then-spends decimalField more (comma-keeps (fieldIn (Decimal
 bits-then : (more : ℕ → List ℕ → CallLine) → ((v : ℕ) → Spends (more v)) → Spends (λ s. behindField (bitsField s) more)
 bits-then more = then-spends bitsField more (comma-keeps (fieldIn Bits) (field-keeps Bits))
 
+none-spends : Spends (lineIn [])
+unfolding lineIn
+none-spends s c rest e = absurd (malformed-line e)
+
+time-spends : (make : Float → Run.Call) → Spends (timeLine make)
+unfolding timeLine
+time-spends make = wide-then _ (λ d. end-spends _)
+
+set-spends : Spends setLine
+unfolding setLine
+set-spends = decimal-then _ (λ n. bits-then _ (λ v. end-spends _))
+
 frame-spends : (kind : FrameKind) → Spends (frameLine kind)
 unfolding frameLine
 frame-spends kind = wide-then _ (λ d. decimal-then _ (λ n. end-spends _))
 
+loops-spends : Spends loopsLine
+unfolding loopsLine
+loops-spends = decimal-then _ (λ s. decimal-then _ (λ n. bits-then _ (λ t. end-spends _)))
+
 pub call-spends : Spends callIn
-unfolding callIn timeLine setLine
+unfolding callIn
 call-spends =
-    name-spends updateName (timeLine Run.Update) _ (wide-then _ (λ d. end-spends _))
-    (name-spends speedName (timeLine Run.Speed) _ (wide-then _ (λ d. end-spends _))
-    (name-spends setName setLine _ (decimal-then _ (λ n. bits-then _ (λ v. end-spends _)))
-    (name-spends frameName (frameLine Ordinary) _ (frame-spends Ordinary)
-    (name-spends pageName (frameLine Page) _ (frame-spends Page)
-    malformed-spends))))
+    named-spends _ _ _ (time-spends Run.Update)
+    (named-spends _ _ _ (time-spends Run.Speed)
+    (named-spends _ _ _ set-spends
+    (named-spends _ _ _ (frame-spends Ordinary)
+    (named-spends _ _ _ (frame-spends Page)
+    (named-spends _ _ _ loops-spends
+    none-spends)))))

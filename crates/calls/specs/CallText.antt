@@ -1,5 +1,5 @@
--- A list of calls as text: `update,D` `speed,D` `set,N,F` `frame,D,L` `page,D,L`, a call a line. Definitions only.
--- D and F are float bits of 64 and 32 bits, N and L decimals; L is the output's length.
+-- A list of calls as text: `update,D` `speed,D` `set,N,F` `frame,D,L` `page,D,L` `loops,S,N,F`, a call a line. Definitions only.
+-- D and F are float bits of 64 and 32 bits, the others decimals: N a parameter, L the output's length, and of `loops` a state and a node.
 use Prim.Native.Nat.{ℕ, zero, suc, _+_}
 use mathlib.Core.Bool.{cond}
 use mathlib.Core.List.{List, [], _∷_}
@@ -10,12 +10,12 @@ use Rattle.model.specs.declared.FieldForm.the-variants.{Decimal, Bits}
 use Rattle.model.specs.declared.FrameKind.{FrameKind}
 use Rattle.model.specs.declared.FrameKind.the-variants.{Ordinary, Page}
 use Rattle.model.specs.Text.{front, lineFeed, comma, maxWord, Field, none, field, fieldIn, begins}
-use Rattle.model.specs.Run.{Call, Update, Speed, Set, Frame}
+use Rattle.model.specs.Run.{Call, Update, Speed, Set, Frame, Loops}
 use Rattle.fields.specs.Wide.{wideBitsIn}
 
 -- ---- a line
 
--- `update`, `speed`, `set`, `frame`, `page`, by their bytes
+-- `update`, `speed`, `set`, `frame`, `page`, `loops`, by their bytes
 abbrev pub updateName : List ℕ
 updateName = 117 ∷ 112 ∷ 100 ∷ 97 ∷ 116 ∷ 101 ∷ []
 
@@ -31,6 +31,9 @@ frameName = 102 ∷ 114 ∷ 97 ∷ 109 ∷ 101 ∷ []
 abbrev pub pageName : List ℕ
 pageName = 112 ∷ 97 ∷ 103 ∷ 101 ∷ []
 
+abbrev pub loopsName : List ℕ
+loopsName = 108 ∷ 111 ∷ 111 ∷ 112 ∷ 115 ∷ []
+
 pub data CallLine : Type 0 where
   malformed : CallLine
   line : (call : Call) (rest : List ℕ) → CallLine
@@ -43,7 +46,7 @@ unfoldable pub behindField : Field → (ℕ → List ℕ → CallLine) → CallL
 behindField none more = malformed
 behindField (field v rest) more = more v rest
 
--- D, F, and N or L
+-- D, F, and decimals
 abbrev pub wideField : List ℕ → Field
 wideField s = behindComma wideBitsIn s
 
@@ -67,14 +70,28 @@ setLine s = behindField (decimalField s) (λ n rest. behindField (bitsField rest
 unfoldable pub frameLine : FrameKind → List ℕ → CallLine
 frameLine kind s = behindField (wideField s) (λ d rest. behindField (decimalField rest) (λ n. lineEnd (Frame kind (ofBits binary64 d) n)))
 
+unfoldable pub loopsLine : List ℕ → CallLine
+loopsLine s =
+    behindField (decimalField s) (λ state rest.
+    behindField (decimalField rest) (λ node rest.
+    behindField (bitsField rest) (λ time. lineEnd (Loops state node (ofBits binary32 time)))))
+
+-- a kind of line: its name, and how it goes on
+pub data Kind : Type 0 where
+  named : (name : List ℕ) (behind : List ℕ → CallLine) → Kind
+
+abbrev pub kinds : List Kind
+kinds =
+    named updateName (timeLine Update) ∷ named speedName (timeLine Speed) ∷ named setName setLine
+    ∷ named frameName (frameLine Ordinary) ∷ named pageName (frameLine Page) ∷ named loopsName loopsLine ∷ []
+
+-- a line of the first of some kinds whose name stands there
+unfoldable pub lineIn : List Kind → List ℕ → CallLine
+lineIn [] s = malformed
+lineIn (named name behind ∷ others) s = cond (begins name s) (behind (drop (length name) s)) (lineIn others s)
+
 unfoldable pub callIn : List ℕ → CallLine
-callIn s =
-    cond (begins updateName s) (timeLine Update (drop (length updateName) s))
-    (cond (begins speedName s) (timeLine Speed (drop (length speedName) s))
-    (cond (begins setName s) (setLine (drop (length setName) s))
-    (cond (begins frameName s) (frameLine Ordinary (drop (length frameName) s))
-    (cond (begins pageName s) (frameLine Page (drop (length pageName) s))
-    malformed))))
+callIn s = lineIn kinds s
 
 -- ---- a list
 

@@ -9,7 +9,7 @@ use lib.Ieee.{Float}
 use Rattle.model.specs.Text.{front, comma, lineFeed}
 use Rattle.model.specs.Run as Run
 use Rattle.calls.specs.declared.Call.{Call}
-use Rattle.calls.specs.declared.Call.the-variants.{Malformed, Update, Speed, Set, Frame}
+use Rattle.calls.specs.declared.Call.the-variants.{Malformed, Update, Speed, Set, Frame, Loops}
 use Rattle.calls.specs.declared.CallAt.{CallAt}
 use Rattle.calls.specs.CallText.{CallLine, malformed, line, callIn, CallList, badLine, calls}
 
@@ -19,6 +19,7 @@ lineOf (Update delta) rest = line (Run.Update delta) rest
 lineOf (Speed value) rest = line (Run.Speed value) rest
 lineOf (Set parameter value) rest = line (Run.Set parameter value) rest
 lineOf (Frame kind ext length) rest = line (Run.Frame kind ext length) rest
+lineOf (Loops state node time) rest = line (Run.Loops state node time) rest
 
 -- update or speed, by a flag: the program's call and the text's
 abbrev pub timedCall : Bool → Float → Call
@@ -41,6 +42,7 @@ isMalformed (Update delta) = false
 isMalformed (Speed value) = false
 isMalformed (Set parameter value) = false
 isMalformed (Frame kind ext length) = false
+isMalformed (Loops state node time) = false
 
 unfoldable pub lineRead : List ℕ → CallAt → CallLine
 lineRead text r = lineOf (r .call) (drop (r .end) text)
@@ -52,6 +54,7 @@ asCall (Run.Update delta) = Update delta
 asCall (Run.Speed value) = Speed value
 asCall (Run.Set parameter value) = Set parameter value
 asCall (Run.Frame kind ext length) = Frame kind ext length
+asCall (Run.Loops state node time) = Loops state node time
 
 abbrev pub noCall : CallAt
 noCall = record { call = Malformed; end = 0 }

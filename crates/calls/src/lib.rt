@@ -12,7 +12,10 @@ use model::limits::MAX_WORD;
 ghost use mathlib.Core.Path.{_≡_};
 ghost use Prim.Native.Nat.{_≤_};
 ghost use lib.ListN.{length, drop};
-ghost use Rattle.calls.specs.CallText.{timeLine, setLine, frameLine, callIn, readCalls, lineCount, callList};
+ghost use Rattle.fields.specs.Found.{found};
+ghost use Rattle.calls.specs.CallText.{decimalField, bitsField, wideField};
+ghost use Rattle.calls.specs.CallText.{timeLine, setLine, frameLine, loopsLine};
+ghost use Rattle.calls.specs.CallText.{callIn, readCalls, lineCount, callList};
 ghost use mathlib.Core.Bool.{false};
 ghost use Rattle.calls.specs.Read.{timedCall, timeOf, behind, isMalformed, lineEndOf, lineRead, noCall, callAt};
 ghost use Rattle.calls.specs.Read.{CallRead, firstMalformed};
@@ -40,6 +43,11 @@ pub enum Call {
         ext: f64,
         length: usize,
     },
+    Loops {
+        state: usize,
+        node: usize,
+        time: f32,
+    },
 }
 
 // A call and the place behind its line.
@@ -64,6 +72,29 @@ fn behind_comma(text: &[u8], at: usize) -> usize
     text.len()
 }
 
+fn decimal_behind(text: &[u8], at: usize) -> Field
+    ensures { λ r. ⌜ found (now (text .entry)) r ≡ decimalField (drop at (now (text .entry))) ⌝ }
+{
+    let form = FieldForm::Decimal {
+        limit: DECIMAL_LIMIT,
+    };
+    read_field(text, behind_comma(text, at), form)
+}
+
+// The bits of a 32-bit float.
+fn bits_behind(text: &[u8], at: usize) -> Field
+    ensures { λ r. ⌜ found (now (text .entry)) r ≡ bitsField (drop at (now (text .entry))) ⌝ }
+{
+    read_field(text, behind_comma(text, at), FieldForm::Bits)
+}
+
+// The bits of a 64-bit float.
+fn wide_behind(text: &[u8], at: usize) -> Field
+    ensures { λ r. ⌜ found (now (text .entry)) r ≡ wideField (drop at (now (text .entry))) ⌝ }
+{
+    read_wide_bits(text, behind_comma(text, at))
+}
+
 // ---- lines, from behind their names on
 
 fn is_malformed(call: Call) -> bool
@@ -81,6 +112,11 @@ fn is_malformed(call: Call) -> bool
             kind: _,
             ext: _,
             length: _,
+        } => false,
+        Call::Loops {
+            state: _,
+            node: _,
+            time: _,
         } => false,
     }
 }
@@ -121,7 +157,7 @@ fn timed(is_speed: bool, x: f64) -> Call
 fn time_line(text: &[u8], at: usize, is_speed: bool) -> CallAt
     ensures { λ r. ⌜ CallRead (now (text .entry)) (timeLine (timeOf «is_speed») (drop at (now (text .entry)))) r ⌝ }
 {
-    let time = read_wide_bits(text, behind_comma(text, at));
+    let time = wide_behind(text, at);
     let Field::Value { value, end } = time else {
         return malformed();
     };
@@ -131,58 +167,77 @@ fn time_line(text: &[u8], at: usize, is_speed: bool) -> CallAt
 fn set_line(text: &[u8], at: usize) -> CallAt
     ensures { λ r. ⌜ CallRead (now (text .entry)) (setLine (drop at (now (text .entry)))) r ⌝ }
 {
-    let number = read_field(
-        text,
-        behind_comma(text, at),
-        FieldForm::Decimal {
-            limit: DECIMAL_LIMIT,
-        },
-    );
-    let Field::Value { value, end } = number else {
-        return malformed();
-    };
-    let bits = read_field(text, behind_comma(text, end), FieldForm::Bits);
+    let number = decimal_behind(text, at);
     let Field::Value {
-        value: set,
-        end: behind,
-    } = bits
+        value: parameter,
+        end: behind_number,
+    } = number
     else {
         return malformed();
     };
-    let call = Call::Set {
-        parameter: value,
-        value: f32_from_bits(set as u32),
+    let bits = bits_behind(text, behind_number);
+    let Field::Value { value, end } = bits else {
+        return malformed();
     };
-    line_end(text, behind, call)
+    let call = Call::Set {
+        parameter: parameter,
+        value: f32_from_bits(value as u32),
+    };
+    line_end(text, end, call)
 }
 
 fn frame_line(text: &[u8], at: usize, kind: FrameKind) -> CallAt
     ensures { λ r. ⌜ CallRead (now (text .entry)) (frameLine kind (drop at (now (text .entry)))) r ⌝ }
 {
-    let ext = read_wide_bits(text, behind_comma(text, at));
-    let Field::Value { value, end } = ext else {
+    let ext = wide_behind(text, at);
+    let Field::Value {
+        value,
+        end: behind_ext,
+    } = ext
+    else {
         return malformed();
     };
-    let length = read_field(
-        text,
-        behind_comma(text, end),
-        FieldForm::Decimal {
-            limit: DECIMAL_LIMIT,
-        },
-    );
-    let Field::Value {
-        value: count,
-        end: behind,
-    } = length
-    else {
+    let count = decimal_behind(text, behind_ext);
+    let Field::Value { value: length, end } = count else {
         return malformed();
     };
     let call = Call::Frame {
         kind: kind,
         ext: f64_from_bits(value as u64),
-        length: count,
+        length: length,
     };
-    line_end(text, behind, call)
+    line_end(text, end, call)
+}
+
+fn loops_line(text: &[u8], at: usize) -> CallAt
+    ensures { λ r. ⌜ CallRead (now (text .entry)) (loopsLine (drop at (now (text .entry)))) r ⌝ }
+{
+    let first = decimal_behind(text, at);
+    let Field::Value {
+        value: state,
+        end: behind_state,
+    } = first
+    else {
+        return malformed();
+    };
+    let second = decimal_behind(text, behind_state);
+    let Field::Value {
+        value: node,
+        end: behind_node,
+    } = second
+    else {
+        return malformed();
+    };
+    let bits = bits_behind(text, behind_node);
+    let Field::Value { value, end } = bits else {
+        return malformed();
+    };
+    let call = Call::Loops {
+        state: state,
+        node: node,
+        time: f32_from_bits(value as u32),
+    };
+    line_end(text, end, call)
 }
 
 // The call in the line that begins at `at`.
@@ -209,6 +264,10 @@ pub fn call_at(text: &[u8], at: usize) -> CallAt
     let page = name_at(text, at, b"page");
     if page > 0 {
         return frame_line(text, at + page, FrameKind::Page);
+    }
+    let loops = name_at(text, at, b"loops");
+    if loops > 0 {
+        return loops_line(text, at + loops);
     }
     malformed()
 }

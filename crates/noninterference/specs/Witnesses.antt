@@ -80,7 +80,6 @@ module _ (plan : List ℕ) (numbers : List Float) where
         trace = frame {r = r} kind ext old (unlessRefused v (written plan (frameMatrices plan numbers p ext kind) old) old) (record { answer = x .is; player = refl; output = refl }) (f .trace);
         called = ap₂ (λ (n : ℕ) (l : List Call). Frame kind ext n ∷ l) (length-replicate len 0f) (f .called);
       }
-
   perform p (Loops s n time ∷ cs) =
       let v = loopsVerdict plan numbers p s n in
       let x : Answerable v = loops-answerable plan numbers p s n in

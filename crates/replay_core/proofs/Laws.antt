@@ -3,7 +3,7 @@ use Prim.Native.Nat.{ℕ, _≤_}
 use native.Mathlib.Omega.{arith}
 use mathlib.Core.Path.{_≡_, refl, sym, ap, _∙_}
 use mathlib.Core.Logic.{_⊎_, inl, inr}
-use mathlib.Core.List.{List, [], _++_, map, append-assoc}
+use mathlib.Core.List.{List, [], _∷_, _++_, map, append-nil, append-assoc}
 use lib.Dec.{leb}
 use lib.ListN.{length, getD, drop}
 use lib.Ieee.{Float}
@@ -14,6 +14,7 @@ use Rattle.model.specs.declared.Refusal.{Refusal}
 use Rattle.model.specs.declared.Outcome.{Outcome}
 use Rattle.model.specs.declared.Answer.{Answer}
 use Rattle.model.specs.declared.Answer.the-variants.{Accepted, Refused}
+use Rattle.model.specs.declared.LoopCount.{LoopCount}
 use Rattle.model.specs.declared.Matrix4.{Matrix4}
 use Rattle.model.specs.Rotations.{identityMatrix, floats}
 use Rattle.model.specs.Answers.{Verdict, accepted, refused, values, _then_, require, unlessRefused}
@@ -22,31 +23,33 @@ use Rattle.model.specs.Check.{check}
 use Rattle.model.specs.Controller.{frameVerdict}
 use Rattle.model.specs.Skeleton.{flat, written}
 use Rattle.model.specs.Program.{jointLine, joined}
-use Rattle.model.specs.Run.{frameMatrices, Call, Frame, callVerdict, changed, after, chosenFloats, observation}
-use Rattle.model.specs.Promises.{Started, Framed}
-use Rattle.model.specs.Laws.Answers.{then-left}
+use Rattle.model.specs.Run.{frameMatrices, Call, Frame, Loops, callVerdict, changed, after, chosenFloats, told, observation}
+use Rattle.model.specs.Promises.{Started, Framed, LoopsCounted}
+use Rattle.model.specs.Laws.Answers.{then-left, unless-same}
 use Rattle.model.specs.Laws.Output.{matrix-at, frame-length}
 use Rattle.model.specs.Laws.Passed.{few-joints}
 use Rattle.printing.specs.Written.{Written, jointLines}
 use Rattle.printing.proofs.Laws.{more-written, front-written, joined-same}
 use Rattle.calls.specs.declared.Call as Read
 use Rattle.calls.specs.declared.Call.the-variants as read
-use Rattle.calls.specs.CallText.{malformed, line}
+use Rattle.calls.specs.CallText.{line}
 use Rattle.calls.specs.Read.{lineOf}
-use Rattle.report.specs.Report.{below, matrixLines, answerLine, playerText, observationText}
+use Rattle.report.specs.declared.Told.{Told}
+use Rattle.report.specs.declared.Told.the-variants.{Nothing}
+use Rattle.report.specs.Report.{below, matrixLines, answerLine, playerText, observationText, toldText, toldValues}
 use Rattle.report.proofs.Laws.{no-matrix-lines, matrix-lines-below}
 use Rattle.replay_core.specs.declared.CallDone.{CallDone}
-use Rattle.replay_core.specs.Replay.{startText}
+use Rattle.replay_core.specs.Replay.{toldIfAccepted, callReport, startText}
 use Rattle.replay_core.specs.Replaying.{NothingShown, callText, allShown, Done}
 use Rattle.replay_core.specs.Replaying.{lineAfter, lineReport, Called, Beginning}
 
 -- ---- room for a frame
 
-room-same : (v a b : Verdict) (need room n : ℕ) → (v ≡ accepted → (need ≤ room) × (need ≤ n))
-    → (v then a then b then require (leb need room) 10 0) ≡ (v then a then b then require (leb need n) 10 0)
+room-same : (v a : Verdict) (need room n : ℕ) → (v ≡ accepted → (need ≤ room) × (need ≤ n))
+    → (v then a then require (leb need room) 10 0) ≡ (v then a then require (leb need n) 10 0)
 unfolding _then_
-room-same accepted a b need room n fits = rw (le-leb need room (fits refl .0), le-leb need n (fits refl .1))
-room-same (refused number place rest) a b need room n fits = refl
+room-same accepted a need room n fits = rw (le-leb need room (fits refl .0), le-leb need n (fits refl .1))
+room-same (refused number place rest) a need room n fits = refl
 
 -- no frame that the plan's check lets pass needs more than the longest output
 pub frame-room : (plan : List ℕ) (numbers : List Float) (p : Player) (room n : ℕ)
@@ -55,29 +58,42 @@ pub frame-room : (plan : List ℕ) (numbers : List Float) (p : Player) (room n :
 unfolding frameVerdict
 frame-room plan numbers p room n (inl e) = rw e
 frame-room plan numbers p room n (inr h) =
-    room-same (check plan (length numbers)) _ _ (outputAt (jointCount plan)) room n
+    room-same (check plan (length numbers)) _ (outputAt (jointCount plan)) room n
     (λ e. let few = few-joints plan (length numbers) e in (omega arith, omega arith))
 
 -- ---- one call
 
-pub unless-same : {A : Type 0} (v : Verdict) (a : A) → unlessRefused v a a ≡ a
+-- of a refused question, which counts 0 and 0, neither is told
+counts-told : (v : Verdict) (x y : ℕ)
+    → unlessRefused v (unlessRefused v x 0 ∷ unlessRefused v y 0 ∷ []) [] ≡ unlessRefused v (x ∷ y ∷ []) []
 unfolding unlessRefused
-unless-same accepted a = refl
-unless-same (refused number place rest) a = refl
+counts-told accepted x y = refl
+counts-told (refused number place rest) x y = refl
 
 module _ (plan : List ℕ) (numbers : List Float) (p : Player) (floats : List Float) where
   -- a call that shows no matrices
-  pub nothing-done : (c : Call) {a : Answer} {q : Player} {d : CallDone} → values a ≡ callVerdict plan numbers p c
-      → q ≡ after plan numbers p c → allShown plan numbers p c ≡ [] → NothingShown a q d
-      → Done plan numbers p c floats d
+  pub nothing-done : (c : Call) {a : Answer} {q : Player} {t : Told} {d : CallDone}
+      → values a ≡ callVerdict plan numbers p c → q ≡ after plan numbers p c → allShown plan numbers p c ≡ []
+      → toldValues t ≡ toldIfAccepted plan numbers p c → NothingShown a q t d → Done plan numbers p c floats d
   unfolding joined
-  nothing-done c answer player none h =
+  nothing-done c answer player none told h =
       record {
         answer = ap values (h .answer) ∙ answer;
         player = h .player ∙ player;
         few = omega arith;
         shown = rw (h .joints, none, no-matrix-lines);
+        told = ap toldValues (h .told) ∙ told;
       }
+
+  -- a question leaves the player
+  pub loops-done : (s n : ℕ) (time : Float) {r : LoopCount} {t : Told} {d : CallDone}
+      → LoopsCounted plan numbers p s n time r
+      → toldValues t ≡ unlessRefused (values (r .answer)) (r .loops ∷ r .rest ∷ []) []
+      → NothingShown (r .answer) p t d → Done plan numbers p (Loops s n time) floats d
+  unfolding callVerdict changed after chosenFloats told
+  loops-done s n time counted is h =
+      nothing-done (Loops s n time) (counted .answer) (sym (unless-same _ p)) (unless-same _ [])
+      (is ∙ rw (counted .answer, counted .loops, counted .rest) (counts-told _ _ _)) h
 
 -- a frame whose output was the front of the floats, and is answered as one of length n
 module _ (plan : List ℕ) (numbers : List Float) (p : Player) (kind : FrameKind) (ext : Float) (old new : List Float)
@@ -93,12 +109,12 @@ module _ (plan : List ℕ) (numbers : List Float) (p : Player) (kind : FrameKind
     frame-player = rw (← same) (framed .player)
 
     pub frame-refused : (refusal : Refusal) (floats : List Float) → r .answer ≡ Refused refusal
-        → NothingShown (r .answer) (r .player) d
+        → NothingShown (r .answer) (r .player) Nothing d
         → Done plan numbers p (Frame kind ext n) floats d
-    unfolding values unlessRefused
+    unfolding values unlessRefused told toldValues
     frame-refused refusal floats e h =
         let v = sym frame-answer ∙ ap values e in
-        nothing-done plan numbers p floats (Frame kind ext n) frame-answer frame-player (rw v) h
+        nothing-done plan numbers p floats (Frame kind ext n) frame-answer frame-player (rw v) (rw v) h
 
     module _ (rest : List Float) (e : r .answer ≡ Accepted) where
       frame-accepted : frameVerdict plan numbers p (length old) ≡ accepted
@@ -107,7 +123,7 @@ module _ (plan : List ℕ) (numbers : List Float) (p : Player) (kind : FrameKind
 
       few-shown : jointCount plan ≤ maxJoints
       unfolding frameVerdict
-      few-shown = few-joints plan (length numbers) (then-left _ _ (then-left _ _ (then-left _ _ frame-accepted)))
+      few-shown = few-joints plan (length numbers) (then-left _ _ (then-left _ _ frame-accepted))
 
       abbrev matrices : List Matrix4
       matrices = frameMatrices plan numbers p ext kind
@@ -124,14 +140,15 @@ module _ (plan : List ℕ) (numbers : List Float) (p : Player) (kind : FrameKind
           (joined-same (jointCount plan) _ _ (λ j h. ap (jointLine j) (matrix-at matrices _ j (omega arith))))
 
       pub frame-done : d .answer ≡ r .answer → d .player ≡ r .player → d .joints ≡ word plan jointCountAt
-          → Done plan numbers p (Frame kind ext n) (new ++ rest) d
-      unfolding callVerdict chosenFloats unlessRefused jointCount
-      frame-done a q count =
+          → d .told ≡ Nothing → Done plan numbers p (Frame kind ext n) (new ++ rest) d
+      unfolding callVerdict chosenFloats unlessRefused jointCount told toldValues
+      frame-done a q count t =
           record {
             answer = ap values a ∙ frame-answer;
             player = q ∙ frame-player;
             few = omega (arith, few-shown);
             shown = rw (← same, frame-accepted, count) lines;
+            told = rw (← same, frame-accepted, t);
           }
 
 -- ---- the call of a line
@@ -139,8 +156,8 @@ module _ (plan : List ℕ) (numbers : List Float) (p : Player) (kind : FrameKind
 module _ (plan : List ℕ) (numbers : List Float) (p : Player) (floats : List Float) (d : CallDone) where
   call-text : (c : Call) (rest : List ℕ) → Done plan numbers p c floats d
       → callText d floats ≡ lineReport plan numbers p (line c rest)
-  unfolding callText lineReport observationText observation
-  call-text c rest h = rw (h .answer, h .player, h .shown)
+  unfolding callText lineReport callReport observationText observation
+  call-text c rest h = rw (h .answer, h .player, h .shown, h .told)
 
   module _ (call : Read.Call) where
     pub called : (k : Read.Call) (c : Call) → call ≡ k → ((s : List ℕ) → lineOf k s ≡ line c s)
@@ -153,13 +170,13 @@ module _ (plan : List ℕ) (numbers : List Float) (p : Player) (floats : List Fl
           text = λ rest. rw (e, is rest) (call-text c rest h);
         }
 
-    pub malformed-called : call ≡ read.Malformed → NothingShown Accepted p d → Called plan numbers p call floats d
-    unfolding lineOf lineAfter lineReport callText observationText observation values unlessRefused joined
+    pub malformed-called : call ≡ read.Malformed → NothingShown Accepted p Nothing d → Called plan numbers p call floats d
+    unfolding lineOf lineAfter lineReport callText observationText observation values unlessRefused joined toldText toldValues
     malformed-called e h =
         record {
           few = omega arith;
           player = λ rest. rw e (h .player);
-          text = λ rest. rw (e, h .answer, h .player, h .joints, no-matrix-lines);
+          text = λ rest. rw (e, h .answer, h .player, h .joints, h .told, no-matrix-lines) (append-nil _);
         }
 
 -- ---- the start

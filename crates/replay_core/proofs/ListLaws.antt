@@ -10,7 +10,7 @@ use lib.ListN.{length, drop}
 use lib.Ieee.{Float}
 use borrow.Author.Tests.{lt-ltb, le-ltb}
 use Rattle.model.specs.declared.Player.{Player}
-use Rattle.model.specs.Run.{Call, runFrom}
+use Rattle.model.specs.Run.{Call}
 use Rattle.printing.specs.Written.{Written}
 use Rattle.printing.proofs.Laws.{nothing-written, more-written, front-written}
 use Rattle.calls.specs.declared.CallAt.{CallAt}
@@ -19,7 +19,7 @@ use Rattle.calls.specs.Read.{lineRead, callAt}
 use Rattle.calls.proofs.Laws.{first-call}
 use Rattle.replay_core.specs.declared.CallDone.{CallDone}
 use Rattle.replay_core.specs.declared.Progress.{Progress}
-use Rattle.replay_core.specs.Replay.{texts, reportFrom, playerAfter}
+use Rattle.replay_core.specs.Replay.{reportFrom, playerAfter}
 use Rattle.replay_core.specs.Replaying.{maxReport, Called, callText, lineAfter, lineReport}
 use Rattle.replay_core.specs.Replaying.{Performance, performed, Performing}
 use Rattle.calls.proofs.Behind.{text-behind}
@@ -127,7 +127,7 @@ module _ (plan : List ℕ) (numbers : List Float) (text : List ℕ) where
       (split : cs ≡ c ∷ later) (here : l ≡ line c behind) where
     report-next : reportFrom plan numbers p cs
         ≡ lineReport plan numbers p l ++ reportFrom plan numbers (lineAfter plan numbers p l) later
-    unfolding lineReport lineAfter reportFrom texts runFrom
+    unfolding lineReport lineAfter reportFrom
     report-next = rw (split, here)
 
     player-next : playerAfter plan numbers p cs ≡ playerAfter plan numbers (lineAfter plan numbers p l) later

@@ -6,7 +6,7 @@ use mathlib.Core.List.{List, [], _++_}
 use lib.ListN.{length, take, drop}
 use lib.Ieee.{Float}
 use Rattle.model.specs.declared.Player.{Player}
-use Rattle.model.specs.Run.{Call, runFrom}
+use Rattle.model.specs.Run.{Call}
 use Rattle.printing.specs.Written.{Front}
 use Rattle.printing.proofs.Laws.{front-text}
 use Rattle.calls.specs.CallText.{calls, readCalls, lineCount, callList}
@@ -14,16 +14,16 @@ use Rattle.calls.proofs.Laws.{no-calls}
 use Rattle.report.specs.Report.{endText}
 use Rattle.replay_core.specs.declared.Begun.{Begun}
 use Rattle.replay_core.specs.declared.Progress.{Progress}
-use Rattle.replay_core.specs.Replay.{texts, reportFrom, playerAfter, replayed}
+use Rattle.replay_core.specs.Replay.{reportFrom, playerAfter, replayed}
 use Rattle.replay_core.specs.Replaying.{Beginning, Steps, ended, step}
-use Rattle.replay_core.proofs.ListLaws.{Rest, rest}
+use Rattle.replay_core.proofs.ListLaws.{rest}
 
 module _ (plan : List ℕ) (numbers : List Float) (text : List ℕ) where
   -- the lines that are left when the steps begin show what the steps show
   pub steps-shown : {at lines : ℕ} {p q : Player} {shown : List ℕ} → Steps plan numbers text at lines p shown q
       → (cs : List Call) → readCalls lines (drop at text) ≡ calls cs
       → (reportFrom plan numbers p cs ≡ shown) × (playerAfter plan numbers p cs ≡ q)
-  unfolding reportFrom texts runFrom playerAfter
+  unfolding reportFrom playerAfter
   steps-shown (ended {at = at}) cs e = let none = no-calls (drop at text) e in (rw none, rw none)
   steps-shown (step {at} {lines} {p} {before = before} {after = out} {r = r} done more) cs e =
       let left = rest plan numbers text (length before) lines at p [] cs e in

@@ -1,27 +1,36 @@
--- Replaying a list of calls: what is printed is the run by definition, as text. Definitions only.
+-- Replaying a list of calls: what is printed is the run by definition, as text, and what questions are told. Definitions only.
+-- RunShown says how that text is made of the run.
 use Prim.Native.Nat.{ℕ}
 use mathlib.Core.Bool.{cond}
-use mathlib.Core.List.{List, [], _∷_, _++_, map}
+use mathlib.Core.List.{List, [], _∷_, _++_}
 use lib.ListN.{length}
 use lib.Dec.{ltb}
 use lib.Ieee.{Float}
 use Rattle.model.specs.declared.Player.{Player}
+use Rattle.model.specs.Answers.{unlessRefused}
 use Rattle.model.specs.Plan.{jointCount}
 use Rattle.model.specs.Text.{lineFeed, Reading, bad, got, readFigure, floatsOf}
 use Rattle.model.specs.Program.{decimalFields, refusedLine, maxText}
-use Rattle.model.specs.Run.{startVerdict, startPlayer, Call, after, runFrom}
+use Rattle.model.specs.Run.{startVerdict, startPlayer, Call, callVerdict, after, chosenFloats, told, observation}
 use Rattle.calls.specs.CallText.{CallList, badLine, calls, callList}
-use Rattle.report.specs.Report.{below, answerLine, playerText, observationText, endText}
-
--- texts, one behind the other
-unfoldable pub texts : List (List ℕ) → List ℕ
-texts [] = []
-texts (t ∷ ts) = t ++ texts ts
+use Rattle.report.specs.Report.{below, answerLine, playerText, observationText, toldText, endText}
 
 module _ (plan : List ℕ) (numbers : List Float) where
-  -- what calls show from a player on, with every joint chosen
+  -- what a question is told; nothing where it is refused
+  abbrev pub toldIfAccepted : Player → Call → List ℕ
+  toldIfAccepted p c = unlessRefused (callVerdict plan numbers p c) (told plan numbers p c) []
+
+  -- what a call shows, with every joint chosen, and behind that what it is told
+  unfoldable pub callReport : Player → Call → List ℕ
+  callReport p c =
+      let shown = chosenFloats plan numbers (below (jointCount plan)) p c in
+      observationText (observation (callVerdict plan numbers p c) (after plan numbers p c) shown) ++
+      toldText (toldIfAccepted p c)
+
+  -- the same of calls, from a player on
   unfoldable pub reportFrom : Player → List Call → List ℕ
-  reportFrom p cs = texts (map observationText (runFrom plan numbers (below (jointCount plan)) p cs))
+  reportFrom p [] = []
+  reportFrom p (c ∷ cs) = callReport p c ++ reportFrom (after plan numbers p c) cs
 
   -- the player that calls leave
   unfoldable pub playerAfter : Player → List Call → Player

@@ -16,40 +16,45 @@ use Rattle.printing.specs.Sizes.{refusalSize, maxPrinted}
 use Rattle.calls.specs.declared.Call as Read
 use Rattle.calls.specs.CallText.{CallLine, malformed, line, callIn}
 use Rattle.calls.specs.Read.{lineOf, callAt}
-use Rattle.report.specs.Report.{below, matrixLines, answerLine, playerText, observationText}
-use Rattle.report.specs.Sizes.{playerSize}
+use Rattle.report.specs.declared.Told.{Told}
+use Rattle.report.specs.Report.{below, matrixLines, answerLine, playerText, observationText, toldText, toldValues}
+use Rattle.report.specs.Sizes.{playerSize, toldSize}
 use Rattle.replay_core.specs.declared.CallDone.{CallDone}
 use Rattle.replay_core.specs.declared.Begun.{Begun}
 use Rattle.replay_core.specs.declared.Progress.{Progress}
-use Rattle.replay_core.specs.Replay.{startText}
+use Rattle.replay_core.specs.Replay.{toldIfAccepted, callReport, startText}
 
 -- the bytes of the longest report
 abbrev pub maxReport : ℕ
-maxReport = refusalSize + playerSize + maxPrinted
+maxReport = refusalSize + playerSize + maxPrinted + toldSize
 
 -- ---- one call
 
 -- a call that has no matrices to show
-pub record NothingShown (a : Answer) (p : Player) (r : CallDone) : Type 0 where
+pub record NothingShown (a : Answer) (p : Player) (t : Told) (r : CallDone) : Type 0 where
   pub answer : r .answer ≡ a
   pub player : r .player ≡ p
   pub joints : r .joints ≡ 0
+  pub told : r .told ≡ t
 
 -- what is put for a call
 unfoldable pub callText : CallDone → List Float → List ℕ
-callText r floats = answerLine (values (r .answer)) ++ playerText (r .player) ++ jointLines (r .joints) floats
+callText r floats =
+    answerLine (values (r .answer)) ++ playerText (r .player) ++ jointLines (r .joints) floats ++
+    toldText (toldValues (r .told))
 
 module _ (plan : List ℕ) (numbers : List Float) (p : Player) where
   -- what every joint shows in a call; nothing where it is refused
   abbrev pub allShown : Call → List (List Float)
   allShown c = unlessRefused (callVerdict plan numbers p c) (chosenFloats plan numbers (below (jointCount plan)) p c) []
 
-  -- its answer, its player, and the floats that hold the matrices to be shown
+  -- its answer, its player, the floats that hold the matrices to be shown, and what it is told
   pub record Done (c : Call) (floats : List Float) (r : CallDone) : Type 0 where
     pub answer : values (r .answer) ≡ callVerdict plan numbers p c
     pub player : r .player ≡ after plan numbers p c
     pub few : r .joints ≤ maxJoints
     pub shown : jointLines (r .joints) floats ≡ matrixLines (allShown c)
+    pub told : toldValues (r .told) ≡ toldIfAccepted plan numbers p c
 
   -- a line's call: the player that it leaves, and what it shows. A malformed line changes nothing and is answered `ok`
   unfoldable pub lineAfter : CallLine → Player
@@ -58,9 +63,7 @@ module _ (plan : List ℕ) (numbers : List Float) (p : Player) where
 
   unfoldable pub lineReport : CallLine → List ℕ
   lineReport malformed = observationText (observation accepted p [])
-  lineReport (line c rest) =
-      let shown = chosenFloats plan numbers (below (jointCount plan)) p c in
-      observationText (observation (callVerdict plan numbers p c) (after plan numbers p c) shown)
+  lineReport (line c rest) = callReport plan numbers p c
 
   -- the call of a line that was read, whatever stands behind the line
   pub record Called (call : Read.Call) (floats : List Float) (r : CallDone) : Type 0 where

@@ -11,8 +11,10 @@ use controller::start;
 use controller::update;
 use layout::JOINT_COUNT_AT;
 use layout::word;
+use loops::loops;
 use model::Answer;
 use model::FrameKind;
+use model::LoopCount;
 use model::Outcome;
 use model::Player;
 use model::limits::MAX_OUTPUT;
@@ -22,32 +24,39 @@ use printing::put_bytes;
 use printing::put_decimal;
 use printing::put_joints;
 use report::PLAYER_SIZE;
+use report::TOLD_SIZE;
+use report::Told;
 use report::put_answer;
 use report::put_instances;
 use report::put_parameters;
 use report::put_player;
+use report::put_told;
 ghost use mathlib.Core.Path.{_≡_};
-ghost use mathlib.Core.List.{[]};
+ghost use mathlib.Core.List.{[], _∷_};
 ghost use Prim.Native.Nat.{_+_, _≤_};
 ghost use lib.ListN.{length};
 ghost use Rattle.model.specs.declared.Answer.the-variants as Answer;
+ghost use Rattle.model.specs.Answers.{values, unlessRefused};
 ghost use Rattle.model.specs.Plan.{maxJoints, maxOutput};
 ghost use Rattle.model.specs.Run.{Frame};
 ghost use Rattle.model.specs.Promises.{Framed};
 ghost use Rattle.printing.specs.Written.{WrittenUpTo, Front};
-ghost use Rattle.report.specs.Report.{endText};
+ghost use Rattle.report.specs.declared.Told.the-variants as Told;
+ghost use Rattle.report.specs.Report.{toldValues, endText};
 ghost use Rattle.replay_core.specs.Replay.{malformedLine};
 ghost use Rattle.replay_core.specs.Replaying.{maxReport, NothingShown, callText, Done, Called};
 ghost use Rattle.replay_core.specs.Replaying.{Beginning, performed, Performing};
 
-// The longest report of a call, or anything else that is put at once: an answer, the player, the lines of all joints.
-pub const MAX_REPORT: usize = REFUSAL_SIZE + PLAYER_SIZE + MAX_PRINTED;
+// The longest report of a call, or anything else that is put at once: an answer, the player, the lines of all joints,
+// and what a question is told.
+pub const MAX_REPORT: usize = REFUSAL_SIZE + PLAYER_SIZE + MAX_PRINTED + TOLD_SIZE;
 
-// A call's outcome, and how many joints' matrices it left in the floats.
+// A call's outcome, how many joints' matrices it left in the floats, and what it is told.
 pub struct CallDone {
     pub answer: Answer,
     pub player: Player,
     pub joints: usize,
+    pub told: Told,
 }
 
 // The player of a start, and how many bytes were put.
@@ -68,8 +77,8 @@ pub struct Progress {
 // ---- one call
 
 // A call that has no matrices to show.
-fn done(outcome: Outcome) -> CallDone
-    ensures { λ r. ⌜ NothingShown (outcome .answer) (outcome .player) r ⌝ }
+fn done(outcome: Outcome, told: Told) -> CallDone
+    ensures { λ r. ⌜ NothingShown (outcome .answer) (outcome .player) told r ⌝ }
 {
     let answer = outcome.answer;
     let player = outcome.player;
@@ -77,17 +86,33 @@ fn done(outcome: Outcome) -> CallDone
         answer: answer,
         player: player,
         joints: 0,
+        told: told,
     }
 }
 
 // A call that is never refused.
 fn accepted(player: Player) -> CallDone
-    ensures { λ r. ⌜ NothingShown Answer.Accepted player r ⌝ }
+    ensures { λ r. ⌜ NothingShown Answer.Accepted player Told.Nothing r ⌝ }
 {
-    done(Outcome {
+    let outcome = Outcome {
         answer: Answer::Accepted,
         player: player,
-    })
+    };
+    done(outcome, Told::Nothing)
+}
+
+// A refused question is told nothing.
+fn told_of(count: LoopCount) -> Told
+    ensures { λ r. ⌜ toldValues r ≡ unlessRefused (values (count .answer)) (count .loops ∷ count .rest ∷ []) [] ⌝ }
+{
+    let answer = count.answer;
+    match answer {
+        Answer::Refused(_) => Told::Nothing,
+        Answer::Accepted => Told::Loops {
+            loops: count.loops,
+            rest: count.rest,
+        },
+    }
 }
 
 fn frame_of(
@@ -132,13 +157,14 @@ fn frame_done(
     let outcome = frame_of(plan, numbers, player, kind, ext, &mut floats[..room]);
     let answer = outcome.answer;
     let Answer::Accepted = answer else {
-        return done(outcome);
+        return done(outcome, Told::Nothing);
     };
     let after = outcome.player;
     CallDone {
         answer: Answer::Accepted,
         player: after,
         joints: word(plan, JOINT_COUNT_AT),
+        told: Told::Nothing,
     }
 }
 
@@ -160,7 +186,7 @@ fn call_done(
         Call::Malformed => accepted(player),
         Call::Update { delta } => accepted(update(player, delta)),
         Call::Speed { value } => accepted(speed(player, value)),
-        Call::Set { parameter, value } => done(set(player, parameter, value)),
+        Call::Set { parameter, value } => done(set(player, parameter, value), Told::Nothing),
         Call::Frame { kind, ext, length } => frame_done(
             plan,
             numbers,
@@ -170,10 +196,19 @@ fn call_done(
             length,
             floats,
         ),
+        Call::Loops { state, node, time } => {
+            let count = loops(plan, numbers, player, state, node, time);
+            let answer = count.answer;
+            let outcome = Outcome {
+                answer: answer,
+                player: player,
+            };
+            done(outcome, told_of(count))
+        }
     }
 }
 
-// The answer, the player and the joints.
+// The answer, the player, the joints, and what the call is told.
 fn put_call(out: &mut [u8], at: usize, call: CallDone, floats: &[f32]) -> usize
     requires { ⌜
         (at + maxReport ≤ length (now out))
@@ -186,9 +221,11 @@ fn put_call(out: &mut [u8], at: usize, call: CallDone, floats: &[f32]) -> usize
 {
     let answer = call.answer;
     let player = call.player;
+    let told = call.told;
     let behind_answer = put_answer(out, at, answer);
     let behind_player = put_player(out, behind_answer, player);
-    put_joints(out, behind_player, call.joints, floats)
+    let behind_joints = put_joints(out, behind_player, call.joints, floats);
+    put_told(out, behind_joints, told)
 }
 
 // ---- a list

@@ -1,7 +1,7 @@
 -- Lines written piece by piece, and lines of matrices. Assumes nothing.
 use Prim.Native.Nat.{ℕ, zero, suc}
 use mathlib.Core.Path.{_≡_, refl, ap, _∙_}
-use mathlib.Core.List.{List, [], _∷_, map, map-append}
+use mathlib.Core.List.{List, [], _∷_, map, append-nil, map-append}
 use lib.Ieee.{Float}
 use Rattle.model.specs.declared.ClipInstance.{ClipInstance}
 use Rattle.model.specs.Text.{lineFeed}
@@ -10,7 +10,14 @@ use Rattle.model.specs.Table.{tableTo}
 use Rattle.model.specs.Laws.Table.{table-length, table-at}
 use Rattle.printing.specs.Written.{Written, floatFields}
 use Rattle.printing.proofs.Laws.{more-written, floats-written, joined-same}
-use Rattle.report.specs.Report.{instanceLine, matrixLines, below}
+use Rattle.report.specs.Report.{toldText, instanceLine, matrixLines, below}
+
+pub loops-written : {xs a b c d : List ℕ} {at p q r t : ℕ} (loops rest : ℕ)
+    → Written xs at (108 ∷ 111 ∷ 111 ∷ 112 ∷ 115 ∷ []) a p
+    → Written a p (decimalFields (loops ∷ [])) b q → Written b q (decimalFields (rest ∷ [])) c r
+    → Written c r (lineFeed ∷ []) d t → Written xs at (toldText (loops ∷ rest ∷ [])) d t
+unfolding toldText decimalFields
+loops-written loops rest w l r e = more-written (more-written w (more-written (rw append-nil at l) r)) e
 
 pub instance-written : {xs a b c d e f : List ℕ} {at o p q r s t : ℕ} (n : ℕ) (i : ClipInstance)
     → Written xs at (105 ∷ 110 ∷ 115 ∷ 116 ∷ 97 ∷ 110 ∷ 99 ∷ 101 ∷ []) a o

@@ -15,6 +15,8 @@ use Rattle.model.specs.Program.{digits, decimalFields, refusedLine, jointLine, 
 use Rattle.model.specs.Table.{tableTo}
 use Rattle.model.specs.Run.{Observation}
 use Rattle.printing.specs.Written.{floatFields}
+use Rattle.report.specs.declared.Told.{Told}
+use Rattle.report.specs.declared.Told.the-variants.{Nothing, Loops}
 
 -- the bits of a 64-bit float, every NaN as 7ff8000000000000, which is how toBits writes it
 abbrev pub wideText : Float → List ℕ
@@ -53,6 +55,16 @@ below n = tableTo (λ l i. i) n
 unfoldable pub observationText : Observation → List ℕ
 observationText o =
     answerLine (o .answer) ++ playerLine (o .clock) (o .speed) (o .state) (o .transition) ++ matrixLines (o .matrices)
+
+-- what a question is told besides: `loops`, and the two numbers; nothing for other calls
+unfoldable pub toldText : List ℕ → List ℕ
+toldText [] = []
+toldText (v ∷ vs) = (108 ∷ 111 ∷ 111 ∷ 112 ∷ 115 ∷ []) ++ decimalFields (v ∷ vs) ++ lineFeed ∷ []
+
+-- the program's enum, as the model's `told` has it
+unfoldable pub toldValues : Told → List ℕ
+toldValues Nothing = []
+toldValues (Loops loops rest) = loops ∷ rest ∷ []
 
 -- ---- the rest of the player, once the calls are done
 

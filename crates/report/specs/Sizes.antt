@@ -19,6 +19,9 @@ transitionSize = 8 + wideSize + decimalSize + numberBytes
 abbrev pub playerSize : ℕ
 playerSize = 6 + 2 * wideSize + decimalSize + transitionSize + 1
 
+abbrev pub toldSize : ℕ
+toldSize = 5 + 2 * decimalSize + 1
+
 abbrev pub parametersSize : ℕ
 parametersSize = 10 + maxParameters * numberBytes + 1
 

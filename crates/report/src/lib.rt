@@ -26,8 +26,8 @@ ghost use Rattle.model.specs.Clips.{instanceAt};
 ghost use Rattle.printing.specs.Written.{WrittenUpTo, WrittenExactly};
 ghost use Rattle.printing.specs.Sizes.{refusalSize};
 ghost use Rattle.report.specs.Report.{wideText, answerLine, transitionFields, playerText};
-ghost use Rattle.report.specs.Report.{parametersLine, instanceLine, instanceLines};
-ghost use Rattle.report.specs.Sizes.{wideSize, transitionSize, playerSize};
+ghost use Rattle.report.specs.Report.{toldText, toldValues, parametersLine, instanceLine, instanceLines};
+ghost use Rattle.report.specs.Sizes.{wideSize, transitionSize, playerSize, toldSize};
 ghost use Rattle.report.specs.Sizes.{parametersSize, instanceSize, instancesSize};
 
 // Digits of a 64-bit float's bits.
@@ -39,6 +39,14 @@ const WIDE_SIZE: usize = 1 + WIDE_DIGITS;
 const TRANSITION_SIZE: usize = 8 + WIDE_SIZE + DECIMAL_SIZE + NUMBER_BYTES;
 
 pub const PLAYER_SIZE: usize = 6 + 2 * WIDE_SIZE + DECIMAL_SIZE + TRANSITION_SIZE + 1;
+
+pub const TOLD_SIZE: usize = 5 + 2 * DECIMAL_SIZE + 1;
+
+// What an accepted call is told besides.
+pub enum Told {
+    Nothing,
+    Loops { loops: usize, rest: usize },
+}
 
 pub fn put_answer(out: &mut [u8], at: usize, answer: Answer) -> usize
     requires { ⌜ at + refusalSize ≤ length (now out) ⌝ }
@@ -96,6 +104,21 @@ pub fn put_player(out: &mut [u8], at: usize, player: Player) -> usize
     let behind_state = put_decimal(out, behind_speed, player.state);
     let behind_transition = put_transition(out, behind_state, transition);
     put_bytes(out, behind_transition, b"\n")
+}
+
+pub fn put_told(out: &mut [u8], at: usize, told: Told) -> usize
+    requires { ⌜ at + toldSize ≤ length (now out) ⌝ }
+    ensures { λ r. ⌜ WrittenUpTo toldSize (now (out .entry)) at (toldText (toldValues told)) (now (out .exit)) r ⌝ }
+{
+    match told {
+        Told::Nothing => at,
+        Told::Loops { loops, rest } => {
+            let behind_name = put_bytes(out, at, b"loops");
+            let behind_loops = put_decimal(out, behind_name, loops);
+            let behind_rest = put_decimal(out, behind_loops, rest);
+            put_bytes(out, behind_rest, b"\n")
+        }
+    }
 }
 
 // ---- the rest of the player

@@ -4,7 +4,7 @@ use native.Mathlib.Omega.{arith}
 use native.Mathlib.Decide.{ℕ-discrete}
 use mathlib.Core.Path.{_≡_, refl, _∙_}
 use mathlib.Core.Bool.{Bool, true, false}
-use Rattle.model.specs.Answers.{Verdict, accepted, refused, _then_, each, require}
+use Rattle.model.specs.Answers.{Verdict, accepted, refused, _then_, each, require, unlessRefused}
 
 -- ---- accepted
 
@@ -50,3 +50,10 @@ each-stops (suc m) f i n p r h e q = go (ℕ-discrete i m) (each-stops m f i n p
     go : Dec (i ≡ m) → (i < m → each i f ≡ accepted → f i ≡ refused n p r → each m f ≡ refused n p r) → each (suc m) f ≡ refused n p r
     go (yes x) later = then-accepted (each m f) (f m) (rw x at e) ∙ (rw x at q)
     go (no x) later = then-refused (each m f) (f m) n p r (later (omega arith) e q)
+
+-- ---- what a call leaves as it is stays, refused or not
+
+pub unless-same : {A : Type 0} (v : Verdict) (a : A) → unlessRefused v a a ≡ a
+unfolding unlessRefused
+unless-same accepted a = refl
+unless-same (refused number place rest) a = refl

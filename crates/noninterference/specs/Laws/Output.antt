@@ -17,16 +17,11 @@ use Rattle.model.specs.Loops.{loopsVerdict}
 use Rattle.model.specs.Skeleton.{written}
 use Rattle.model.specs.Run.{startVerdict, startPlayer, frameMatrices, Call, Loops, callVerdict, changed, after, chosenFloats, told, Observation, observation, runFrom, run}
 use Rattle.model.specs.Promises.{Updated, SpeedSet, ParameterSet, Framed, LoopsCounted}
+use Rattle.model.specs.Laws.Answers.{unless-same}
 use Rattle.model.specs.Laws.Output.{matrix-at, frame-length}
 use Rattle.noninterference.specs.Alike.{Closed}
 use Rattle.noninterference.specs.Trace.{Event, Trace, end, update, setSpeed, setParameter, frame, askLoops, Session, calls, outputFloats, observed, ofReachable, toldIn}
 use Rattle.noninterference.specs.Laws.Lists.{map-same}
-
--- refused or not, a question leaves the player
-pub unless-same : {A : Type 0} (v : Verdict) (a : A) → unlessRefused v a a ≡ a
-unfolding unlessRefused
-unless-same accepted a = refl
-unless-same (refused number place rest) a = refl
 
 module _ (plan chosen : List ℕ) (numbers : List Float) (closed : Closed plan chosen) where
   frame-floats : (p : Player) (ext : Float) (kind : FrameKind) (old : List Float)

@@ -42,7 +42,7 @@ returns-2 c =
     let f = t .before .before .before .before in
     let e = t .enum-told .given .1 in
     let same = frame-room _ _ _ _ _ (room-as (f .before)) in (
-      frame-done _ _ _ _ _ _ _ _ (f .frame-of .ensures) _ same _ _ e (sym e) refl (c .word .ensures .0),
+      frame-done _ _ _ _ _ _ _ _ (f .frame-of .ensures) _ same _ _ e (sym e) refl (c .word .ensures .0) refl,
       search needs,
     )
 

@@ -1,5 +1,5 @@
 -- `report::put_instances` meets its contract: after n turns the first n lines are written. Assumes nothing.
-use Prim.Native.Nat.{_+_, _*_, _-_, _≤_}
+use Prim.Native.Nat.{_*_, _-_, _≤_}
 use mathlib.Core.Path.{_≡_}
 use native.Mathlib.Omega.{arith}
 use Rattle.model.specs.Plan.{maxClipNodes}
