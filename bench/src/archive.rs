@@ -1,7 +1,7 @@
 //! The archive's calls, by their C names, on buffers of their own.
 
 use crate::draft::{Draft, VALUES};
-use crate::sys::{self, RawAnswer, RawCloseUp, RawLoops, RawPlayer, RawUses};
+use crate::sys::{self, RawAnswer, RawLoops, RawPlayer, RawUses};
 use gentianlathe as _; // links the archive
 
 const ACCEPTED: RawAnswer = RawAnswer {
@@ -109,27 +109,6 @@ impl Archive {
     /// The same by a page frame.
     pub fn play_page(&mut self, delta: f64, ext: f64) {
         self.step(sys::gentianlathe_page_frame, delta, ext);
-    }
-
-    /// The same by a close-up of one joint; its floats.
-    #[inline(always)]
-    pub fn play_joint(&mut self, delta: f64, ext: f64, joint: usize) -> [f32; 16] {
-        let (plan, numbers) = (&self.plan, &self.numbers);
-        // SAFETY: two slices and a player, all apart.
-        let close_up: RawCloseUp = unsafe {
-            sys::gentianlathe_update(&mut self.player, delta);
-            sys::gentianlathe_joint(
-                plan.as_ptr(),
-                plan.len(),
-                numbers.as_ptr(),
-                numbers.len(),
-                &mut self.player,
-                ext,
-                joint,
-            )
-        };
-        assert_eq!(close_up.number, 0);
-        close_up.matrix
     }
 
     #[inline(always)]

@@ -23,8 +23,6 @@ pub struct Size {
     pub samples: usize,
     /// Whether clips stop on their last pose. The Rust has no such clips.
     pub stops: bool,
-    /// Whether each joint's parent is the one before it. Else two joints share a parent.
-    pub chain: bool,
 }
 
 impl Size {
@@ -37,7 +35,6 @@ impl Size {
             moves: false,
             samples: SAMPLES,
             stops: false,
-            chain: false,
         }
     }
 }
@@ -148,11 +145,7 @@ impl Draft {
         };
         Draft {
             parents: (0..size.joints as u16)
-                .map(|joint| {
-                    joint
-                        .checked_sub(1)
-                        .map(|j| if size.chain { j } else { j / 2 })
-                })
+                .map(|joint| joint.checked_sub(1).map(|j| j / 2))
                 .collect(),
             clips: (0..clips).map(clip).collect(),
             states: (0..size.states).map(state).collect(),

@@ -7,7 +7,6 @@
 //! the Rust can play the figure.
 
 mod archive;
-mod close_ups;
 mod draft;
 mod loops;
 mod measure;
@@ -317,7 +316,6 @@ fn main() {
     pages::pages(time);
     uses::uses(time);
     loops::loops(time);
-    close_ups::close_ups(time);
     endings(time);
     texts(time);
 }

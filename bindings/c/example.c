@@ -4,7 +4,6 @@
  *     example [-p] [FIGURE [SECONDS [PARAMETER VALUE]]]
  *     example -u [FIGURE]
  *     example -l STATE NODE TIME [FIGURE]
- *     example -j JOINT [FIGURE [SECONDS [PARAMETER VALUE]]]
  *
  * FIGURE is a file with a figure's text (default: examples/printed.figure, from the repository's folder).
  * The first frame right after the start is printed as the program gentianlathe prints it, with ext 0. Where
@@ -16,9 +15,6 @@
  *
  * With -l no frame is shown either. It prints how many loops the clip of that node has played at TIME, in seconds, by a
  * player that was just started: `ok`, and then `loops,LOOPS,REST`.
- *
- * With -j the frames are close-ups: of each only the line of that joint is printed, and only its chain of parents is
- * worked out.
  *
  * A refusal is printed as `refused,number,place`, and put in words on standard error.
  * Exit status: 0 shown, 1 refused, 2 something else went wrong (usage, file, memory, a foreign archive).
@@ -32,7 +28,7 @@
 
 enum { SHOWN = 0, REFUSED = 1, FAILED = 2 };
 
-enum question { FRAMES, PAGE_FRAMES, CLOSE_UPS, USES, LOOPS };
+enum question { FRAMES, PAGE_FRAMES, USES, LOOPS };
 
 typedef struct {
     uint8_t *bytes;
@@ -54,7 +50,6 @@ typedef struct {
     int sets; /* whether a parameter is to be set */
     size_t parameter;
     float value;
-    size_t joint;       /* of close-ups */
     size_t state, node; /* of which loops are counted */
     float time;
 } options;
@@ -144,40 +139,20 @@ static unsigned long printed_bits(float value)
     return value != value ? 0x7fc00000ul : (unsigned long)bits;
 }
 
-static void print_joint(size_t joint, const float *matrix)
+static int show(const figure *shown, int pages, gentianlathe_player *player, float *output, size_t length)
 {
-    printf("joint,%lu", (unsigned long)joint);
-    for (size_t i = 0; i < GENTIANLATHE_MATRIX; i++)
-        printf(",%08lx", printed_bits(matrix[i]));
-    putchar('\n');
-}
-
-static int show_joint(const figure *shown, size_t joint, gentianlathe_player *player)
-{
-    gentianlathe_joint_answer answer =
-        gentianlathe_joint(shown->plan, shown->words, shown->numbers, shown->count, player, 0.0, joint);
-    if (answer.number != 0)
-        return refuse(answer.number, answer.place);
-    print_joint(joint, answer.matrix);
-    return SHOWN;
-}
-
-static int show_frame(const figure *shown, int pages, gentianlathe_player *player)
-{
-    size_t length = gentianlathe_output_length(shown->plan, shown->words);
-    float *output = allocate(length, sizeof *output);
     gentianlathe_answer answer = (pages ? gentianlathe_page_frame : gentianlathe_frame)(
         shown->plan, shown->words, shown->numbers, shown->count, player, 0.0, output, length);
-    for (size_t at = 0; answer.number == 0 && at < length; at += GENTIANLATHE_MATRIX)
-        print_joint(at / GENTIANLATHE_MATRIX, output + at);
-    free(output);
-    return answer.number == 0 ? SHOWN : refuse(answer.number, answer.place);
-}
-
-static int show(const figure *shown, const options *asked, gentianlathe_player *player)
-{
-    return asked->question == CLOSE_UPS ? show_joint(shown, asked->joint, player)
-                                        : show_frame(shown, asked->question == PAGE_FRAMES, player);
+    if (answer.number != 0)
+        return refuse(answer.number, answer.place);
+    for (size_t i = 0; i < length; i++) {
+        if (i % GENTIANLATHE_MATRIX == 0)
+            printf("joint,%lu", (unsigned long)(i / GENTIANLATHE_MATRIX));
+        printf(",%08lx", printed_bits(output[i]));
+        if (i % GENTIANLATHE_MATRIX == GENTIANLATHE_MATRIX - 1)
+            putchar('\n');
+    }
+    return SHOWN;
 }
 
 static int start(const figure *started, gentianlathe_player *player)
@@ -190,18 +165,24 @@ static int start(const figure *started, gentianlathe_player *player)
 static int play(const figure *played, const options *asked)
 {
     gentianlathe_player player;
+    int pages = asked->question == PAGE_FRAMES;
     int status = start(played, &player);
-    if (status == SHOWN)
-        status = show(played, asked, &player);
-    if (status != SHOWN || !asked->again)
+    if (status != SHOWN)
         return status;
-    gentianlathe_update(&player, asked->seconds);
-    if (asked->sets) {
-        gentianlathe_answer answer = gentianlathe_set(&player, asked->parameter, asked->value);
-        if (answer.number != 0)
-            return refuse(answer.number, answer.place);
+    size_t length = gentianlathe_output_length(played->plan, played->words);
+    float *output = allocate(length, sizeof *output);
+    status = show(played, pages, &player, output, length);
+    if (status == SHOWN && asked->again) {
+        gentianlathe_update(&player, asked->seconds);
+        if (asked->sets) {
+            gentianlathe_answer answer = gentianlathe_set(&player, asked->parameter, asked->value);
+            status = answer.number == 0 ? SHOWN : refuse(answer.number, answer.place);
+        }
+        if (status == SHOWN)
+            status = show(played, pages, &player, output, length);
     }
-    return show(played, asked, &player);
+    free(output);
+    return status;
 }
 
 static void print_marks(const char *name, const uint8_t *marks, size_t count)
@@ -255,8 +236,7 @@ static int usage(void)
 {
     fprintf(stderr, "usage: example [-p] [FIGURE [SECONDS [PARAMETER VALUE]]]\n"
                     "       example -u [FIGURE]\n"
-                    "       example -l STATE NODE TIME [FIGURE]\n"
-                    "       example -j JOINT [FIGURE [SECONDS [PARAMETER VALUE]]]\n");
+                    "       example -l STATE NODE TIME [FIGURE]\n");
     return FAILED;
 }
 
@@ -277,25 +257,18 @@ static int is_real(const char *word, double *real)
 /* How many words the option takes, itself included, and what it asks for. -1 where they are not right. */
 static int parse_option(int count, char **words, options *asked)
 {
-    static const char *const flags[] = {[PAGE_FRAMES] = "-p", [CLOSE_UPS] = "-j", [USES] = "-u", [LOOPS] = "-l"};
+    static const char *const flags[] = {[PAGE_FRAMES] = "-p", [USES] = "-u", [LOOPS] = "-l"};
     double time = 0;
     for (enum question question = PAGE_FRAMES; count > 1 && question <= LOOPS; question++)
         if (strcmp(words[1], flags[question]) == 0)
             asked->question = question;
-    switch (asked->question) {
-    case FRAMES:
-        return 0;
-    case CLOSE_UPS:
-        return count > 2 && is_count(words[2], &asked->joint) ? 2 : -1;
-    case LOOPS:
-        if (count < 5 || !is_count(words[2], &asked->state) || !is_count(words[3], &asked->node) ||
-            !is_real(words[4], &time))
-            return -1;
-        asked->time = (float)time;
-        return 4;
-    default:
-        return 1;
-    }
+    if (asked->question != LOOPS)
+        return asked->question == FRAMES ? 0 : 1;
+    if (count < 5 || !is_count(words[2], &asked->state) || !is_count(words[3], &asked->node) ||
+        !is_real(words[4], &time))
+        return -1;
+    asked->time = (float)time;
+    return 4;
 }
 
 static int parse(int count, char **words, options *asked)
@@ -310,7 +283,7 @@ static int parse(int count, char **words, options *asked)
     asked->path = count > 1 ? words[1] : "examples/printed.figure";
     asked->again = count > 2;
     asked->sets = count > 4;
-    int frames = asked->question != USES && asked->question != LOOPS;
+    int frames = asked->question == FRAMES || asked->question == PAGE_FRAMES;
     if (count == 4 || count > (frames ? 5 : 2) || (asked->again && !is_real(words[2], &asked->seconds)) ||
         (asked->sets && (!is_count(words[3], &asked->parameter) || !is_real(words[4], &value))))
         return usage();

@@ -49,8 +49,7 @@ extern "C" {
 
 /*
  * A player. It is plain data: copy it by assignment, save and restore it, read it as you like. Any content
- * is taken; one that no figure has is at most refused, by a frame, gentianlathe_joint or gentianlathe_loops
- * (number 9).
+ * is taken; one that no figure has is at most refused, by a frame or by gentianlathe_loops (number 9).
  *
  * A start makes one. A start that is refused makes the blank one: clock 0, speed 1, state 0, idle, all
  * parameters 0, all clip instances at start 0, rate 1, offset 0.
@@ -79,7 +78,7 @@ typedef char gentianlathe_player_has_952_bytes[sizeof(gentianlathe_player) == 95
 /*
  * An answer. Number 0 is the acceptance, and place is then 0. Any other number is a refusal; where more
  * than one applies, the first in the order of checks is told. A plan's words are checked front to back, and
- * the first missing or wrong one decides (1 to 5 and 14); then 6, 7, 9; then, by what is asked for, 10, or 15, or
+ * the first missing or wrong one decides (1 to 5 and 14); then 6, 7, 9; then, by what is asked for, 10 or
  * 16 and 17. A text: 11, then 12.
  *
  *   number and what is wrong, as docs/FORMAT.md has it
@@ -94,7 +93,6 @@ typedef char gentianlathe_player_has_952_bytes[sizeof(gentianlathe_player) == 95
  *   8   a parameter number is 32 or above (place: 0)
  *   9   the player's state, or its running transition's target, is not below S (place: 0)
  *   10  the output holds fewer than 16 floats a joint (place: 0)
- *   15  there is no such joint (place: 0)
  *   16  there is no such state or node, or the node is no clip (place: 0)
  *   17  the clip has no samples, or stops (place: 0)
  *   11  a line is malformed, missing or one too many, or has a count above its limit (place: that line, from 1)
@@ -117,19 +115,6 @@ typedef struct gentianlathe_text_answer {
 } gentianlathe_text_answer;
 
 /*
- * One joint in close-up. Number and place are an answer's, as above. The matrix has the joint's 16 floats by rows, as
- * gentianlathe_frame has them in its output; where refused, all are 0.
- */
-typedef struct gentianlathe_joint_answer {
-    size_t number;
-    size_t place;
-    float matrix[GENTIANLATHE_MATRIX];
-} gentianlathe_joint_answer;
-
-/* It comes by value, so a host that expects another size would have its stack written over. */
-typedef char gentianlathe_joint_answer_has_80_bytes[sizeof(gentianlathe_joint_answer) == 80 ? 1 : -1];
-
-/*
  * What a figure can ever use. Number and place are an answer's, as above; every mark is 0 or 1:
  *
  *   states[s]      1: state s is reachable. It is the initial one, or a chain of transitions leads to it from there
@@ -147,6 +132,7 @@ typedef struct gentianlathe_uses_answer {
     uint8_t clips[GENTIANLATHE_MAX_CLIPS];
 } gentianlathe_uses_answer;
 
+/* It comes by value, so a host that expects another size would have its stack written over. */
 typedef char gentianlathe_uses_answer_has_80_bytes[sizeof(gentianlathe_uses_answer) == 80 ? 1 : -1];
 
 /*
@@ -206,23 +192,6 @@ gentianlathe_answer gentianlathe_page_frame(const uint16_t *plan, size_t plan_le
                                             const float *numbers, size_t numbers_length,
                                             gentianlathe_player *player, double ext,
                                             float *output, size_t output_length);
-
-/*
- * Shows one joint in close-up: its matrix alone, by rows, as gentianlathe_frame at the same ext has it. Only the
- * joint's own chain of parents is worked out, so that beside the figure's check the cost goes with the chain's length.
- * The player moves as with that frame; close-ups and frames of both kinds may be asked for in turns.
- *
- *     gentianlathe_joint_answer wrist =
- *         gentianlathe_joint(plan, plan_length, numbers, numbers_length, &player, 0.0, 5);
- *     if (wrist.number == 0)
- *         printf("at %g, %g, %g\n", wrist.matrix[3], wrist.matrix[7], wrist.matrix[11]);
- *
- * Refused with 1 to 7 or 14 for the figure; with 9 for the player; with 15 for a joint that is not below J, the plan's
- * first word. The player then stays. No output is lent, so 10 does not come.
- */
-gentianlathe_joint_answer gentianlathe_joint(const uint16_t *plan, size_t plan_length,
-                                             const float *numbers, size_t numbers_length,
-                                             gentianlathe_player *player, double ext, size_t joint);
 
 /*
  * Tells which states of a figure are reachable, and which parameters and clips these use: gentianlathe_uses_answer says

@@ -11,7 +11,6 @@
 [8] = "a parameter number is 32 or above (place: 0)",
 [9] = "the player's state, or its running transition's target, is not below S (place: 0)",
 [10] = "the output holds fewer than 16 floats a joint (place: 0)",
-[15] = "there is no such joint (place: 0)",
 [16] = "there is no such state or node, or the node is no clip (place: 0)",
 [17] = "the clip has no samples, or stops (place: 0)",
 [11] = "a line is malformed, missing or one too many, or has a count above its limit (place: that line, from 1)",

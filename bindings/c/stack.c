@@ -113,12 +113,6 @@ static void page_frame(void)
     number = gentianlathe_page_frame(plan, words, numbers, NUMBERS, &player, 0.0, output, OUTPUT).number;
 }
 
-/* The chain's last joint, so that all are worked out. */
-static void joint(void)
-{
-    number = gentianlathe_joint(plan, words, numbers, NUMBERS, &player, 0.0, JOINTS - 1).number;
-}
-
 /* The last state is reached only by way of all others. */
 static void uses(void)
 {
@@ -173,8 +167,8 @@ int main(void)
         const char *name;
         void (*call)(void);
     } calls[] = {{"start", start}, {"update", update}, {"speed", speed}, {"set", set}, {"frame", frame},
-                 {"page_frame", page_frame}, {"joint", joint}, {"uses", uses}, {"loops", loops},
-                 {"read_text", read_text}, {"the four sizes", sizes}};
+                 {"page_frame", page_frame}, {"uses", uses}, {"loops", loops}, {"read_text", read_text},
+                 {"the four sizes", sizes}};
     int failed = 0;
     make_figure();
     make_text();

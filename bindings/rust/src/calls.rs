@@ -6,7 +6,7 @@
 //! before a player exists.
 
 use crate::refusal::Refusal;
-use crate::sys::{self, RawAnswer, RawCloseUp, RawLoops, RawPlayer, RawUses};
+use crate::sys::{self, RawAnswer, RawLoops, RawPlayer, RawUses};
 use std::mem::size_of;
 use std::sync::Once;
 
@@ -113,33 +113,6 @@ pub fn frame(
             output.len(),
         )
     })
-}
-
-/// The answer to a close-up of a joint, and its matrix: all 0 where refused.
-pub fn joint(
-    figure: Slices,
-    player: &mut RawPlayer,
-    ext: f64,
-    joint: usize,
-) -> (Result<(), Refusal>, RawCloseUp) {
-    let Slices { plan, numbers } = figure;
-    // SAFETY: two slices to read; a player to write, which is lent to us alone; the answer comes by value.
-    let close_up = unsafe {
-        sys::gentianlathe_joint(
-            plan.as_ptr(),
-            plan.len(),
-            numbers.as_ptr(),
-            numbers.len(),
-            player,
-            ext,
-            joint,
-        )
-    };
-    let answer = RawAnswer {
-        number: close_up.number,
-        place: close_up.place,
-    };
-    (result(answer), close_up)
 }
 
 /// The answer about what the figure can use, and its marks: all 0 where refused.

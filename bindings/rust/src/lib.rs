@@ -27,9 +27,8 @@
 //! # }
 //! ```
 //!
-//! One joint in close-up is shown by [`Player::joint`], which works out its chain of parents alone. What a figure can
-//! ever use, and so also what nobody can see of it, is told by [`Figure::uses`], and how often a clip has gone round by
-//! [`Player::loops`].
+//! What a figure can ever use, and so also what nobody can see of it, is told by [`Figure::uses`], and how often a clip
+//! has gone round by [`Player::loops`].
 //!
 //! A call that is refused says why by a [`Refusal`] and changes nothing. No call panics, allocates (but for
 //! [`Figure::from_text`], and for the lists of [`Uses`]) or is undefined, whatever it is given. The evaluator keeps

@@ -5,7 +5,6 @@ use crate::figure::Figure;
 use crate::loops::Loops;
 use crate::refusal::Refusal;
 use crate::sys::{RawPlayer, INSTANCE_FLOATS, PARAMETERS};
-use crate::MATRIX_FLOATS;
 
 /// How many clip instances a player has.
 pub const INSTANCES: usize = INSTANCE_FLOATS / 3;
@@ -118,8 +117,8 @@ impl Player {
         Player::from_raw(player)
     }
 
-    /// A player with these parts. Any are taken: a state that the figure lacks is refused by frames, by
-    /// [`Player::joint`] and by [`Player::loops`].
+    /// A player with these parts. Any are taken: a state that the figure lacks is refused by frames and by
+    /// [`Player::loops`].
     ///
     /// ```
     /// use gentianlathe::{Player, PlayerParts};
@@ -229,36 +228,6 @@ impl Player {
         output: &mut [f32],
     ) -> Result<(), Refusal> {
         calls::frame(FrameKind::Page, figure.slices(), &mut self.raw, ext, output)
-    }
-
-    /// Shows one joint in close-up: its matrix alone, by rows, as [`Player::frame`] at the same `ext` has it. Only the
-    /// joint's own chain of parents is worked out. The player moves as with that frame.
-    ///
-    /// ```
-    /// # use gentianlathe::Figure;
-    /// let figure = Figure::from_text(include_bytes!("../../../examples/arm.figure"))?;
-    /// let (mut player, mut framed) = (figure.start(), figure.start());
-    /// let hand = player.joint(&figure, 0.0, 2)?;
-    /// let mut output = [0.0; 3 * 16];
-    /// framed.frame(&figure, 0.0, &mut output)?;
-    /// assert_eq!(hand, output[2 * 16..]);
-    /// assert_eq!(player, framed);
-    /// # Ok::<(), gentianlathe::Refusal>(())
-    /// ```
-    ///
-    /// # Errors
-    ///
-    /// [`Refusal::State`] where the figure lacks the player's state or its transition's target, then
-    /// [`Refusal::Joint`] where it lacks the joint. The player is then as it was.
-    pub fn joint(
-        &mut self,
-        figure: &Figure,
-        ext: f64,
-        joint: usize,
-    ) -> Result<[f32; MATRIX_FLOATS], Refusal> {
-        let (answer, close_up) = calls::joint(figure.slices(), &mut self.raw, ext, joint);
-        answer?;
-        Ok(close_up.matrix)
     }
 
     /// How many whole loops the clip of a node has played at a time, and how many samples of the next. States are

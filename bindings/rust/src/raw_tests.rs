@@ -2,7 +2,7 @@
 
 use crate::calls::{self, FrameKind, Slices};
 use crate::player::Player;
-use crate::sys::{self, RawCloseUp, RawLoops, RawPlayer, RawTextAnswer, RawUses};
+use crate::sys::{self, RawLoops, RawPlayer, RawTextAnswer, RawUses};
 use std::mem::{offset_of, size_of};
 
 const PLAN: [u16; 14] = [1, 1, 0, 1, 0, 255, 1, 0, 1, 0, 0, 0, 0, 0];
@@ -92,60 +92,6 @@ fn a_refused_readings_counts_are_0() {
     assert_eq!(read(text, 14, 8), answer(12, 0, 0, 0));
     assert_eq!(read(&text[..60], 14, 9), answer(11, 5, 0, 0));
     assert_eq!(read(b"", 0, 0), answer(11, 1, 0, 0));
-}
-
-#[test]
-fn layout_of_a_close_up() {
-    assert_eq!(size_of::<RawCloseUp>(), 80);
-    assert_eq!(offset_of!(RawCloseUp, place), 8);
-    assert_eq!(offset_of!(RawCloseUp, matrix), 16);
-}
-
-/// Its matrix is zeros, and all fields of the player stay, also those that mean nothing.
-#[test]
-fn a_refused_close_up() {
-    let (_, fresh) = calls::start(FIGURE);
-    let odd = RawPlayer {
-        start: 0.25,
-        target: 7,
-        duration: -1.0,
-        ..fresh
-    };
-    let foreign = RawPlayer { state: 1, ..odd };
-    let fields = |raw: &RawPlayer| {
-        let RawPlayer {
-            state,
-            running,
-            target,
-            ..
-        } = *raw;
-        (
-            state,
-            running,
-            target,
-            raw.start.to_bits(),
-            raw.duration.to_bits(),
-        )
-    };
-    let cut = Slices {
-        plan: &PLAN[..13],
-        numbers: &NUMBERS,
-    };
-    let refused = [
-        (FIGURE, odd, 1, (15, 0)),
-        (FIGURE, odd, usize::MAX, (15, 0)),
-        (FIGURE, foreign, 1, (9, 0)),
-        (FIGURE, foreign, 0, (9, 0)),
-        (cut, foreign, 1, (1, 13)),
-    ];
-    for (figure, before, joint, answer) in refused {
-        let mut player = before;
-        let (_, told) = calls::joint(figure, &mut player, 0.5, joint);
-        assert_eq!((told.number, told.place), answer);
-        assert_eq!(told.matrix.map(f32::to_bits), [0; 16]);
-        assert_eq!(fields(&player), fields(&before));
-        assert_eq!(Player::from_raw(player), Player::from_raw(before));
-    }
 }
 
 #[test]

@@ -62,8 +62,6 @@ pub enum Refusal {
         /// That word; the clip's N is the word before it.
         word: usize,
     },
-    /// 15: the figure has no such joint.
-    Joint,
     /// 16: the figure has no such state or node, or the node is no clip.
     ClipNode,
     /// 17: the clip has no samples, or stops, and so it has no loops.
@@ -97,7 +95,6 @@ impl Refusal {
             (11, line) => Refusal::Line { line },
             (12, 0) => Refusal::Slices,
             (14, word) => Refusal::Ending { word },
-            (15, 0) => Refusal::Joint,
             (16, 0) => Refusal::ClipNode,
             (17, 0) => Refusal::LoopingClip,
             (number, place) => Refusal::Other { number, place },
@@ -120,7 +117,6 @@ impl Refusal {
             Refusal::Line { .. } => 11,
             Refusal::Slices => 12,
             Refusal::Ending { .. } => 14,
-            Refusal::Joint => 15,
             Refusal::ClipNode => 16,
             Refusal::LoopingClip => 17,
             Refusal::Other { number, .. } => number,
@@ -144,7 +140,6 @@ impl Refusal {
             | Refusal::State
             | Refusal::Output
             | Refusal::Slices
-            | Refusal::Joint
             | Refusal::ClipNode
             | Refusal::LoopingClip => 0,
         }
@@ -206,7 +201,6 @@ impl fmt::Display for Refusal {
                 "line {line} of the text is malformed, missing or one too many, or has a count above its limit"
             ),
             Refusal::Slices => write!(f, "the slices are too short for the text's plan and numbers"),
-            Refusal::Joint => write!(f, "there is no such joint: they are numbered from 0, as the plan has them"),
             Refusal::ClipNode => write!(
                 f,
                 "there is no such clip node: name a state of the figure, and a node of it that plays a clip"

@@ -93,17 +93,6 @@ pub struct RawLoops {
 
 const _: () = assert!(std::mem::size_of::<RawLoops>() == 32);
 
-/// One joint in close-up: its matrix by rows. Where refused, all floats are 0.
-#[repr(C)]
-#[derive(Clone, Copy, Debug, PartialEq)]
-pub struct RawCloseUp {
-    pub number: usize,
-    pub place: usize,
-    pub matrix: [f32; 16],
-}
-
-const _: () = assert!(std::mem::size_of::<RawCloseUp>() == 80);
-
 // Pointers are valid for the lengths beside them, not null, aligned, and none overlaps another.
 extern "C" {
     pub fn gentianlathe_start(
@@ -141,16 +130,6 @@ extern "C" {
         output: *mut f32,
         output_length: usize,
     ) -> RawAnswer;
-
-    pub fn gentianlathe_joint(
-        plan: *const u16,
-        plan_length: usize,
-        numbers: *const f32,
-        numbers_length: usize,
-        player: *mut RawPlayer,
-        ext: f64,
-        joint: usize,
-    ) -> RawCloseUp;
 
     pub fn gentianlathe_uses(
         plan: *const u16,

@@ -180,7 +180,7 @@ fn any_plan_is_answered() {
 
 /// One random call; whether it was refused.
 fn call(random: &mut Random, figure: &Figure, player: &mut Player, output: &mut [f32]) -> bool {
-    let answer = match random.below(7) {
+    let answer = match random.below(6) {
         0 => {
             player.update(random.double());
             Ok(())
@@ -194,11 +194,6 @@ fn call(random: &mut Random, figure: &Figure, player: &mut Player, output: &mut 
         4 => {
             let [state, node] = [random.below(5), random.below(32)];
             let answer = player.loops(figure, state, node, random.float());
-            answer.map(|_| ())
-        }
-        5 => {
-            let joint = random.below(figure.output_len() / 16 + 2);
-            let answer = player.joint(figure, random.double(), joint);
             answer.map(|_| ())
         }
         _ => player.page_frame(figure, random.double(), output),

@@ -22,7 +22,8 @@ use Rattle.layout.proofs.Laws.{joints_found}
 use Rattle.animation.specs.declared.Position.{Position}
 use Rattle.animation.specs.Sampling.{position_in, pose_from}
 use Rattle.blend_tree.specs.declared.sampling.Clip.{Clip}
-use Rattle.blend_tree.specs.Blocks.{Playable}
+use Rattle.blend_tree.specs.declared.Joints.{Joints}
+use Rattle.blend_tree.specs.Blocks.{Playable, InBlock}
 use Rattle.blend_tree.specs.Sampling.{clip_of, Sized, position_at, samples_at, pose_start, pose_between, Sampled}
 
 positive : (n : ℕ) → (n ≡ 0 → ⊥) → 0 < n
@@ -46,7 +47,7 @@ module _ {plan : List ℕ} {numbers : List Float} {layout : Layout} (ok : Playab
   unfolding clip_of
   clip_sized {clip} e some = (positive clip.samples some, rw e few, rw e few_before)
 
-  -- what `joint_pose`, `row_poses` and `chain_poses` ask of what it gives
+  -- what `joint_pose` and `sampled_poses` ask of what it gives
   pub sampled : {clip : Clip} {p : Position} (x : Float) → clip ≡ clip_of plan numbers c → (clip.samples ≡ 0 → ⊥) → p ≡ samples_at clip x → Sampled numbers layout p
   unfolding clip_of
   sampled x e some found = record { plan = plan; c = c; position = x; playable = ok; clip = inside; some = rw e at (clip_sized e some).0; found = rw e at found }
@@ -102,10 +103,11 @@ module _ {numbers : List Float} {layout : Layout} {p : Position} (s : Sampled nu
 pub row_start : (layout : Layout) (sample first i : ℕ) → pose_start layout sample first + 8 * i ≡ pose_start layout sample (first + i)
 row_start layout sample first i = omega arith
 
-pub row_inside : {numbers : List Float} {layout : Layout} {p : Position} {count low high i : ℕ} (first : ℕ) → Sampled numbers layout p → first + count ≤ layout.joints
-    → low ≡ pose_start layout p.first first → high ≡ pose_start layout p.second first → i < count
+pub row_inside : {numbers : List Float} {layout : Layout} {p : Position} {joints : Joints} {low high i : ℕ} → Sampled numbers layout p → InBlock layout joints
+    → low ≡ pose_start layout p.first joints.first → high ≡ pose_start layout p.second joints.first → i < joints.count
     → (low + 8 * i + 8 ≤ length numbers) × (high + 8 * i + 8 ≤ length numbers)
-row_inside {p = p} {i = i} first s fits el eh h = rw (el, eh, row_start _ p.first first i, row_start _ p.second first i) (joint_inside s (omega (arith, h, fits)))
+row_inside {p = p} {joints = joints} {i = i} s block el eh h =
+    rw (el, eh, row_start _ p.first joints.first i, row_start _ p.second joints.first i) (joint_inside s (omega (arith, h, block.inside)))
 
 -- ---- what an instance of a clip shows of a joint
 

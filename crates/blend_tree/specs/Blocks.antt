@@ -1,8 +1,8 @@
 -- What functions over blocks of joints ask and promise: each lane of a block is the pose that model defines for one joint. Definitions only.
-use Rattle.std.specs.Prelude.{ℕ, zero, suc, ◌+◌, ◌-◌, ◌≤◌, ◌<◌, ◌≡◌, Bool, cond, List, length, get_or, eqb, Float}
+use Rattle.std.specs.Prelude.{ℕ, suc, ◌+◌, ◌≤◌, ◌<◌, ◌≡◌, Bool, cond, List, length, get_or, Float}
 use Rattle.model.specs.declared.Pose.{Pose}
 use Rattle.model.specs.Answers.{accepted}
-use Rattle.model.specs.Plan.{joint_count, parent, node_count, clip_node_at}
+use Rattle.model.specs.Plan.{node_count, clip_node_at}
 use Rattle.model.specs.Check.{check}
 use Rattle.model.specs.Pose.{identity_pose, lerp}
 use Rattle.model.specs.Tree.{additive, node_poses, state_pose}
@@ -12,26 +12,13 @@ use Rattle.lanes.specs.Lanes.{block_size, lane_at}
 use Rattle.blend_tree.specs.declared.Joints.{Joints}
 use Rattle.blend_tree.specs.declared.StateAt.{StateAt}
 
--- ---- which joints
-
--- n parents up from joint j
-unfoldable pub ancestor : List ℕ → ℕ → ℕ → ℕ
-ancestor plan j zero = j
-ancestor plan j (suc n) = parent plan (ancestor plan j n)
-
--- the joint of lane i
-unfoldable pub joint_in : List ℕ → Joints → ℕ → ℕ
-joint_in plan joints i = cond (eqb (joints.first + joints.count) (joints.last + 1)) (joints.first + i) (ancestor plan joints.last (joints.count - suc i))
-
--- ---- what is promised
-
 -- lane i of the first `count` is the pose f i
 abbrev pub Filled : (ℕ → Pose) → ℕ → List Float → Type 0
 Filled f count block = (i : ℕ) → i < count → lane_at block i ≡ f i
 
--- the lanes are the poses that the joints have by f
-abbrev pub FilledFor : List ℕ → Joints → List Float → (ℕ → Pose) → Type 0
-FilledFor plan joints block f = Filled (λ i. f (joint_in plan joints i)) joints.count block
+-- the lanes are the poses that a row of joints has by f
+abbrev pub FilledFor : Joints → List Float → (ℕ → Pose) → Type 0
+FilledFor joints block f = Filled (λ i. f (joints.first + i)) joints.count block
 
 -- ---- what is asked
 
@@ -40,16 +27,10 @@ pub record Playable (plan : List ℕ) (numbers : List Float) (layout : Layout) :
   pub passed : check plan (length numbers) ≡ accepted
   pub found : layout ≡ layout_of plan
 
--- joint j and the next parents up are joints of the plan, so many in all
-abbrev pub AreJoints : List ℕ → ℕ → ℕ → Type 0
-AreJoints plan j count = (n : ℕ) → n < count → ancestor plan j n < joint_count plan
-
--- a block has room for these joints of the plan
-pub record InBlock (plan : List ℕ) (layout : Layout) (joints : Joints) : Type 0 where
+-- a block has room for this row of the plan's joints
+pub record InBlock (layout : Layout) (joints : Joints) : Type 0 where
   pub small : joints.count ≤ block_size
-  pub some : 0 < joints.count
-  pub ends : (joints.first < layout.joints) × (joints.last < layout.joints)
-  pub inside : (i : ℕ) → i < joints.count → joint_in plan joints i < layout.joints
+  pub inside : joints.first + joints.count ≤ layout.joints
 
 -- slot i holds how many clip nodes of the plan come before node i of state s: its own number, if it is one
 pub record Slots (plan : List ℕ) (s : ℕ) (slots : List ℕ) : Type 0 where

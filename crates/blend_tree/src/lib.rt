@@ -14,11 +14,10 @@ pub struct StateAt {
     pub time: f32,
 }
 
-// Joints, one a lane: each lane's is the parent of the next one's, or, where the numbers leave no gap, the one before it.
+// A row of joints.
 #[derive(Drop)]
 pub struct Joints {
     pub first: usize,
-    pub last: usize,
     pub count: usize,
 }
 

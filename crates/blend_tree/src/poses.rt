@@ -1,19 +1,18 @@
 // Poses of a state's nodes, for many joints at once.
-ghost use Rattle.std.specs.Prelude.{◌≡◌, suc, ◌+◌, ◌-◌, ◌<◌, ◌≤◌};
+ghost use Rattle.std.specs.Prelude.{◌≡◌, ◌+◌, ◌<◌, ◌≤◌};
 ghost use Rattle.model.specs.Pose.{identity_pose};
 ghost use Rattle.model.specs.Plan.{clip_count};
 ghost use Rattle.model.specs.Clips.{local_time, clip_pose};
 ghost use Rattle.lanes.specs.Lanes.{block_size, lane_at};
 ghost use Rattle.blend_tree.specs.Sampling.{pose_between, Sampled};
-ghost use Rattle.blend_tree.specs.Blocks.{ancestor, AreJoints, Filled, FilledFor, Playable};
-ghost use Rattle.blend_tree.specs.Blocks.{InBlock, SlottedState};
+ghost use Rattle.blend_tree.specs.Blocks.{Filled, FilledFor, Playable, InBlock, SlottedState};
 ghost use Rattle.blend_tree.specs.Blocks.{combined, node_pose_at, state_pose_at};
 
-use crate::sampling::{clip_at, clip_position, clip_samples, joint_pose};
+use crate::sampling::{clip_at, clip_position, clip_samples};
 use crate::{Joints, SLOTS, StateAt};
 use animation::{Position, instance_at, pose_between};
 use lanes::{BLOCK_FLOATS, lane, set_lane};
-use layout::{Layout, node_at, parent, pose_at};
+use layout::{Layout, node_at, pose_at};
 use model::limits::{MAX_INSTANCES, MAX_PARAMETERS, POSE_FLOATS};
 use model::{ClipInstance, Pose};
 use transform::{concat, identity, lerp};
@@ -61,55 +60,26 @@ fn identity_poses(count: usize, block: &mut [f32; BLOCK_FLOATS])
     }
 }
 
-// A row of joints in a clip, between two of its samples, whose places are worked out once: with `joint_pose` in each lane
-// some sizes are slower by a sixth.
-fn row_poses(
+// A clip, between two of its samples, whose places are worked out once: with `joint_pose` in each lane some sizes are
+// slower by a sixth.
+fn sampled_poses(
     numbers: &[f32],
     layout: Layout,
     samples: Position,
-    first: usize,
-    count: usize,
+    joints: Joints,
     block: &mut [f32; BLOCK_FLOATS],
 )
-    requires { Sampled numbers.now layout samples
-        × (count ≤ block_size)
-        × (first + count ≤ layout.joints) }
-    ensures { Filled (λ i. pose_between numbers.now layout samples (first + i)) count block.new }
+    requires { Sampled numbers.now layout samples × InBlock layout joints }
+    ensures { FilledFor joints block.new (pose_between numbers.now layout samples) }
 {
-    let low = pose_at(layout, samples.first, first);
-    let high = pose_at(layout, samples.second, first);
+    let low = pose_at(layout, samples.first, joints.first);
+    let high = pose_at(layout, samples.second, joints.first);
     let factor = samples.factor;
     let mut i = 0;
-    while i < count {
+    while i < joints.count {
         let at = POSE_FLOATS * i;
         set_lane(block, i, pose_between(numbers, low + at, high + at, factor));
         i += 1;
-    }
-}
-
-// The same of a joint and parents of it, from the last lane up.
-fn chain_poses(
-    plan: &[u16],
-    numbers: &[f32],
-    layout: Layout,
-    samples: Position,
-    last: usize,
-    count: usize,
-    block: &mut [f32; BLOCK_FLOATS],
-)
-    requires { Playable plan.now numbers.now layout
-        × Sampled numbers.now layout samples
-        × (count ≤ block_size)
-        × AreJoints plan.now last count }
-    ensures { Filled (λ i. pose_between numbers.now layout samples (ancestor plan.now last (count - suc i)))
-        count block.new }
-{
-    let mut joint = last;
-    let mut i = count;
-    while i > 0 {
-        i -= 1;
-        set_lane(block, i, joint_pose(numbers, layout, samples, joint));
-        joint = parent(plan, joint);
     }
 }
 
@@ -125,8 +95,8 @@ fn clip_poses(
 )
     requires { Playable plan.now numbers.now state.layout
         × (c < clip_count plan.now)
-        × InBlock plan.now state.layout joints }
-    ensures { FilledFor plan.now joints block.new
+        × InBlock state.layout joints }
+    ensures { FilledFor joints block.new
         (λ j. clip_pose plan.now numbers.now c j (local_time instance state.time)) }
 {
     let clip = clip_at(plan, numbers, state.layout, c);
@@ -136,26 +106,7 @@ fn clip_poses(
     }
     let position = clip_position(clip, instance, state.time);
     let samples = clip_samples(clip, position);
-    if joints.first + joints.count != joints.last + 1 {
-        chain_poses(
-            plan,
-            numbers,
-            state.layout,
-            samples,
-            joints.last,
-            joints.count,
-            block,
-        );
-        return;
-    }
-    row_poses(
-        numbers,
-        state.layout,
-        samples,
-        joints.first,
-        joints.count,
-        block,
-    );
+    sampled_poses(numbers, state.layout, samples, joints, block);
 }
 
 // A node's poses come from those of its inputs, which are earlier nodes, down to clips.
@@ -171,9 +122,9 @@ fn node_poses(
     block: &mut [f32; BLOCK_FLOATS],
 )
     requires { SlottedState plan.now numbers.now state slots.now
-        × InBlock plan.now state.layout joints
+        × InBlock state.layout joints
         × (node < state.here.nodes) }
-    ensures { FilledFor plan.now joints block.new
+    ensures { FilledFor joints block.new
         (node_pose_at plan.now numbers.now parameters.now
         state instances.now node) }
 {
@@ -206,9 +157,8 @@ pub fn state_poses(
     joints: Joints,
     block: &mut [f32; BLOCK_FLOATS],
 )
-    requires { SlottedState plan.now numbers.now state slots.now
-        × InBlock plan.now state.layout joints }
-    ensures { FilledFor plan.now joints block.new
+    requires { SlottedState plan.now numbers.now state slots.now × InBlock state.layout joints }
+    ensures { FilledFor joints block.new
         (state_pose_at plan.now numbers.now parameters.now
         state instances.now) }
 {

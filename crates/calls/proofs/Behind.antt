@@ -11,13 +11,14 @@ use lib.Seq.{drop-drop}
 use borrow.Author.Tests.{leb-true, leb-false}
 use Rattle.model.specs.declared.FieldForm.{FieldForm}
 use Rattle.model.specs.declared.FieldForm.TheVariants.{Decimal, Bits}
+use Rattle.model.specs.declared.FrameKind.{FrameKind}
 use Rattle.model.specs.declared.FrameKind.TheVariants.{Ordinary, Page}
-use Rattle.model.specs.Run.{Call, Update, Speed, Frame, Joint}
+use Rattle.model.specs.Run.{Call, Update, Speed}
 use Rattle.model.specs.Text.{front, comma, line_feed, max_word, base_of, digit_count, is_field}
 use Rattle.model.specs.Text.{Field, none, field, field_in, begins}
 use Rattle.fields.specs.Wide.{wide_bits_in}
 use Rattle.calls.specs.CallText.{CallLine, malformed, line, behind_comma, behind_field, bits_field, decimal_field}
-use Rattle.calls.specs.CallText.{line_end, time_line, set_line, ext_line, loops_line, Kind, named, line_in, call_in}
+use Rattle.calls.specs.CallText.{line_end, time_line, set_line, frame_line, loops_line, Kind, named, line_in, call_in}
 use Rattle.calls.specs.Read.{call_placed, call_at}
 
 -- a text's rear part
@@ -98,9 +99,9 @@ loops_rear s =
     then_rear _ (decimal_rear s)
     (λ k t. then_rear _ (decimal_rear t) (λ n u. then_rear _ (bits_rear u) (λ v rest. end_rear _ rest)))
 
-ext_rear : (make : Float → ℕ → Call) (s : List ℕ) → LineRear s (ext_line make s)
-unfolding ext_line
-ext_rear make s =
+frame_rear : (kind : FrameKind) (s : List ℕ) → LineRear s (frame_line kind s)
+unfolding frame_line
+frame_rear kind s =
     then_rear _ (comma_rear wide_bits_in wide_rear s)
     (λ d t. then_rear _ (decimal_rear t) (λ n rest. end_rear _ rest))
 
@@ -121,11 +122,10 @@ call_rear s =
     named_rear _ _ _ s (time_rear Update)
     (named_rear _ _ _ s (time_rear Speed)
     (named_rear _ _ _ s set_rear
-    (named_rear _ _ _ s (ext_rear (Frame Ordinary))
-    (named_rear _ _ _ s (ext_rear (Frame Page))
-    (named_rear _ _ _ s (ext_rear Joint)
+    (named_rear _ _ _ s (frame_rear Ordinary)
+    (named_rear _ _ _ s (frame_rear Page)
     (named_rear _ _ _ s loops_rear
-    (none_rear s)))))))
+    (none_rear s))))))
 
 -- a rear part begins as many places before the end as it has
 rear_place : (s : List ℕ) (k : ℕ) → drop (length s - length (drop k s)) s ≡ drop k s

@@ -13,7 +13,7 @@ use borrow.Author.Tests.{eq-eqb, ne_eqb}
 use Rattle.model.specs.Run as Run
 use Rattle.model.specs.Text.{line_feed}
 use Rattle.calls.specs.declared.Call.{Call}
-use Rattle.calls.specs.declared.Call.TheVariants.{Malformed, Update, Speed, Set, Frame, Joint, Loops}
+use Rattle.calls.specs.declared.Call.TheVariants.{Malformed, Update, Speed, Set, Frame, Loops}
 use Rattle.calls.specs.declared.CallAt.{CallAt}
 use Rattle.calls.specs.CallText.{CallLine, malformed, line, call_in, CallList, bad_line, calls, with_call, line_then, read_calls, line_count, call_list}
 use Rattle.calls.specs.Read.{line_of, is_malformed, line_read, first_malformed}
@@ -27,7 +27,6 @@ is_malformed_lem (Update d) e = cc
 is_malformed_lem (Speed v) e = cc
 is_malformed_lem (Set n v) e = cc
 is_malformed_lem (Frame kind ext n) e = cc
-is_malformed_lem (Joint ext j) e = cc
 is_malformed_lem (Loops s n t) e = cc
 
 -- a call that is not malformed is one of the text's
@@ -42,7 +41,6 @@ called (Update d) e = record { means = Run.Update d; reading = λ rest. refl }
 called (Speed v) e = record { means = Run.Speed v; reading = λ rest. refl }
 called (Set n v) e = record { means = Run.Set n v; reading = λ rest. refl }
 called (Frame kind ext n) e = record { means = Run.Frame kind ext n; reading = λ rest. refl }
-called (Joint ext j) e = record { means = Run.Joint ext j; reading = λ rest. refl }
 called (Loops s n t) e = record { means = Run.Loops s n t; reading = λ rest. refl }
 
 -- ---- a list, from its front on

@@ -11,6 +11,7 @@ use lib.Seq.{drop-drop}
 use borrow.Author.Tests.{eq-eqb, ne_eqb, eqb-true}
 use Rattle.model.specs.declared.FieldForm.{FieldForm}
 use Rattle.model.specs.declared.FieldForm.TheVariants.{Decimal, Bits}
+use Rattle.model.specs.declared.FrameKind.{FrameKind}
 use Rattle.model.specs.declared.FrameKind.TheVariants.{Ordinary, Page}
 use Rattle.model.specs.Run as Run
 use Rattle.model.specs.Text as Text
@@ -23,13 +24,11 @@ use Rattle.fields.specs.Wide.{wide_bits_in, wide_bits_at}
 use Rattle.fields.proofs.Bytes.{there, front_at}
 use Rattle.fields.proofs.Laws.{field_found, wide_found}
 use Rattle.calls.specs.declared.Call.{Call}
-use Rattle.calls.specs.declared.Call.TheVariants.{Malformed, Update, Speed, Set, Frame, Joint, Loops}
-use Rattle.calls.specs.declared.ExtCall.{ExtCall}
-use Rattle.calls.specs.declared.ExtCall.TheVariants as Ext
+use Rattle.calls.specs.declared.Call.TheVariants.{Malformed, Update, Speed, Set, Frame, Loops}
 use Rattle.calls.specs.declared.CallAt.{CallAt}
 use Rattle.calls.specs.CallText.{CallLine, malformed, line, behind_comma, behind_field, wide_field, bits_field, decimal_field}
-use Rattle.calls.specs.CallText.{line_end, time_line, set_line, ext_line, loops_line, Kind, named, kinds, line_in, call_in}
-use Rattle.calls.specs.Read.{timed_call, time_of, ext_call, ext_of, behind, line_of, line_end_of, is_malformed, line_read, as_call, no_call, call_placed, call_at, CallRead}
+use Rattle.calls.specs.CallText.{line_end, time_line, set_line, frame_line, loops_line, Kind, named, kinds, line_in, call_in}
+use Rattle.calls.specs.Read.{timed_call, time_of, behind, line_of, line_end_of, is_malformed, line_read, as_call, no_call, call_placed, call_at, CallRead}
 
 -- ---- fields
 
@@ -91,23 +90,14 @@ pub timed_well : (is_speed : Bool) (x : Float) → is_malformed (timed_call is_s
 timed_well true x = refl
 timed_well false x = refl
 
-pub ext_well : (asked : ExtCall) (ext : Float) (n : ℕ) → is_malformed (ext_call asked ext n) ≡ false
-ext_well (Ext.Frame kind) ext n = refl
-ext_well Ext.Joint ext n = refl
-
 pub never : true ≡ false → ⊥
 never e = let z : ◌≡◌ {A = ℕ} 0 1 = cc in omega arith
 
--- the program's call for a time, or for an ext, is the text's
+-- the program's call for a time is the text's
 pub timed_is : (is_speed : Bool) (x : Float) (rest : List ℕ) → line_of (timed_call is_speed x) rest ≡ line (time_of is_speed x) rest
 unfolding line_of
 timed_is true x rest = refl
 timed_is false x rest = refl
-
-pub ext_is : (asked : ExtCall) (ext : Float) (n : ℕ) (rest : List ℕ) → line_of (ext_call asked ext n) rest ≡ line (ext_of asked ext n) rest
-unfolding line_of
-ext_is (Ext.Frame kind) ext n rest = refl
-ext_is Ext.Joint ext n rest = refl
 
 pub malformed_read : (text : List ℕ) (r : CallAt) → r.call ≡ Malformed → line_read text r ≡ malformed
 unfolding line_read line_of
@@ -131,7 +121,6 @@ module _ (text : List ℕ) where
   there_and_back (Speed value) end inside nowhere = ap (placed (Speed value)) (omega (arith, length-drop end text))
   there_and_back (Set n v) end inside nowhere = ap (placed (Set n v)) (omega (arith, length-drop end text))
   there_and_back (Frame kind ext n) end inside nowhere = ap (placed (Frame kind ext n)) (omega (arith, length-drop end text))
-  there_and_back (Joint ext j) end inside nowhere = ap (placed (Joint ext j)) (omega (arith, length-drop end text))
   there_and_back (Loops s n t) end inside nowhere = ap (placed (Loops s n t)) (omega (arith, length-drop end text))
 
   -- the line at a place, as a call and by what it says
@@ -286,9 +275,9 @@ set_spends : Spends set_line
 unfolding set_line
 set_spends = decimal_then _ (λ n. bits_then _ (λ v. end_spends _))
 
-ext_spends : (make : Float → ℕ → Run.Call) → Spends (ext_line make)
-unfolding ext_line
-ext_spends make = wide_then _ (λ d. decimal_then _ (λ n. end_spends _))
+frame_spends : (kind : FrameKind) → Spends (frame_line kind)
+unfolding frame_line
+frame_spends kind = wide_then _ (λ d. decimal_then _ (λ n. end_spends _))
 
 loops_spends : Spends loops_line
 unfolding loops_line
@@ -300,8 +289,7 @@ call_spends =
     named_spends _ _ _ (time_spends Run.Update)
     (named_spends _ _ _ (time_spends Run.Speed)
     (named_spends _ _ _ set_spends
-    (named_spends _ _ _ (ext_spends (Run.Frame Ordinary))
-    (named_spends _ _ _ (ext_spends (Run.Frame Page))
-    (named_spends _ _ _ (ext_spends Run.Joint)
+    (named_spends _ _ _ (frame_spends Ordinary)
+    (named_spends _ _ _ (frame_spends Page)
     (named_spends _ _ _ loops_spends
-    none_spends))))))
+    none_spends)))))

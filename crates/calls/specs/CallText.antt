@@ -1,17 +1,18 @@
--- A list of calls as text: `update,D` `speed,D` `set,N,F` `frame,D,L` `page,D,L` `joint,D,J` `loops,S,N,F`, a call a line. Definitions only.
--- D and F are float bits of 64 and 32 bits, the others decimals: N a parameter, L the output's length, J a joint, and of `loops` a state and a node.
+-- A list of calls as text: `update,D` `speed,D` `set,N,F` `frame,D,L` `page,D,L` `loops,S,N,F`, a call a line. Definitions only.
+-- D and F are float bits of 64 and 32 bits, the others decimals: N a parameter, L the output's length, and of `loops` a state and a node.
 use Rattle.std.specs.Prelude.{ℕ, zero, suc, ◌+◌, cond, List, [], ◌∷◌, length, drop, eqb, Float}
 use Rattle.std.specs.Float.{binary32, binary64}
 use Rattle.std.specs.Float.Ieee.{of_bits}
 use Rattle.model.specs.declared.FieldForm.TheVariants.{Decimal, Bits}
+use Rattle.model.specs.declared.FrameKind.{FrameKind}
 use Rattle.model.specs.declared.FrameKind.TheVariants.{Ordinary, Page}
 use Rattle.model.specs.Text.{front, line_feed, comma, max_word, Field, none, field, field_in, begins}
-use Rattle.model.specs.Run.{Call, Update, Speed, Set, Frame, Joint, Loops}
+use Rattle.model.specs.Run.{Call, Update, Speed, Set, Frame, Loops}
 use Rattle.fields.specs.Wide.{wide_bits_in}
 
 -- ---- a line
 
--- `update`, `speed`, `set`, `frame`, `page`, `joint`, `loops`, by their bytes
+-- `update`, `speed`, `set`, `frame`, `page`, `loops`, by their bytes
 abbrev pub update_name : List ℕ
 update_name = 117 ∷ 112 ∷ 100 ∷ 97 ∷ 116 ∷ 101 ∷ []
 
@@ -26,9 +27,6 @@ frame_name = 102 ∷ 114 ∷ 97 ∷ 109 ∷ 101 ∷ []
 
 abbrev pub page_name : List ℕ
 page_name = 112 ∷ 97 ∷ 103 ∷ 101 ∷ []
-
-abbrev pub joint_name : List ℕ
-joint_name = 106 ∷ 111 ∷ 105 ∷ 110 ∷ 116 ∷ []
 
 abbrev pub loops_name : List ℕ
 loops_name = 108 ∷ 111 ∷ 111 ∷ 112 ∷ 115 ∷ []
@@ -66,9 +64,8 @@ time_line make s = behind_field (wide_field s) (λ d rest. line_end (make (of_bi
 unfoldable pub set_line : List ℕ → CallLine
 set_line s = behind_field (decimal_field s) (λ n rest. behind_field (bits_field rest) (λ v. line_end (Set n (of_bits binary32 v))))
 
--- an ext, and an output's length or a joint
-unfoldable pub ext_line : (Float → ℕ → Call) → List ℕ → CallLine
-ext_line make s = behind_field (wide_field s) (λ d rest. behind_field (decimal_field rest) (λ n. line_end (make (of_bits binary64 d) n)))
+unfoldable pub frame_line : FrameKind → List ℕ → CallLine
+frame_line kind s = behind_field (wide_field s) (λ d rest. behind_field (decimal_field rest) (λ n. line_end (Frame kind (of_bits binary64 d) n)))
 
 unfoldable pub loops_line : List ℕ → CallLine
 loops_line s =
@@ -83,8 +80,7 @@ pub data Kind : Type 0 where
 abbrev pub kinds : List Kind
 kinds =
     named update_name (time_line Update) ∷ named speed_name (time_line Speed) ∷ named set_name set_line
-    ∷ named frame_name (ext_line (Frame Ordinary)) ∷ named page_name (ext_line (Frame Page)) ∷ named joint_name (ext_line Joint)
-    ∷ named loops_name loops_line ∷ []
+    ∷ named frame_name (frame_line Ordinary) ∷ named page_name (frame_line Page) ∷ named loops_name loops_line ∷ []
 
 -- a line of the first of some kinds whose name stands there
 unfoldable pub line_in : List Kind → List ℕ → CallLine

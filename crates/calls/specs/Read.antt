@@ -3,9 +3,7 @@ use Rattle.std.specs.Prelude.{ℕ, ◌-◌, ◌≤◌, ◌≡◌, Bool, true, fa
 use Rattle.model.specs.Text.{front, comma, line_feed}
 use Rattle.model.specs.Run as Run
 use Rattle.calls.specs.declared.Call.{Call}
-use Rattle.calls.specs.declared.Call.TheVariants.{Malformed, Update, Speed, Set, Frame, Joint, Loops}
-use Rattle.calls.specs.declared.ExtCall.{ExtCall}
-use Rattle.calls.specs.declared.ExtCall.TheVariants as Ext
+use Rattle.calls.specs.declared.Call.TheVariants.{Malformed, Update, Speed, Set, Frame, Loops}
 use Rattle.calls.specs.declared.CallAt.{CallAt}
 use Rattle.calls.specs.CallText.{CallLine, malformed, line, call_in, CallList, bad_line, calls}
 
@@ -15,7 +13,6 @@ line_of (Update delta) rest = line (Run.Update delta) rest
 line_of (Speed value) rest = line (Run.Speed value) rest
 line_of (Set parameter value) rest = line (Run.Set parameter value) rest
 line_of (Frame kind ext length) rest = line (Run.Frame kind ext length) rest
-line_of (Joint ext joint) rest = line (Run.Joint ext joint) rest
 line_of (Loops state node time) rest = line (Run.Loops state node time) rest
 
 -- update or speed, by a flag: the program's call and the text's
@@ -24,15 +21,6 @@ timed_call is_speed x = cond is_speed (Speed x) (Update x)
 
 abbrev pub time_of : Bool → Float → Run.Call
 time_of is_speed x = cond is_speed (Run.Speed x) (Run.Update x)
-
--- a call with an ext and a decimal, likewise
-abbrev pub ext_call : ExtCall → Float → ℕ → Call
-ext_call (Ext.Frame kind) ext n = Frame kind ext n
-ext_call Ext.Joint ext n = Joint ext n
-
-abbrev pub ext_of : ExtCall → Float → ℕ → Run.Call
-ext_of (Ext.Frame kind) ext n = Run.Frame kind ext n
-ext_of Ext.Joint ext n = Run.Joint ext n
 
 -- the text behind a comma; nothing where there is none
 unfoldable pub behind : List ℕ → List ℕ
@@ -48,7 +36,6 @@ is_malformed (Update delta) = false
 is_malformed (Speed value) = false
 is_malformed (Set parameter value) = false
 is_malformed (Frame kind ext length) = false
-is_malformed (Joint ext joint) = false
 is_malformed (Loops state node time) = false
 
 unfoldable pub line_read : List ℕ → CallAt → CallLine
@@ -61,7 +48,6 @@ as_call (Run.Update delta) = Update delta
 as_call (Run.Speed value) = Speed value
 as_call (Run.Set parameter value) = Set parameter value
 as_call (Run.Frame kind ext length) = Frame kind ext length
-as_call (Run.Joint ext joint) = Joint ext joint
 as_call (Run.Loops state node time) = Loops state node time
 
 abbrev pub no_call : CallAt

@@ -2,10 +2,10 @@
 ghost use Rattle.std.specs.Prelude.{◌≡◌, ◌≤◌, length, drop, false};
 ghost use Rattle.fields.specs.Found.{found};
 ghost use Rattle.calls.specs.CallText.{decimal_field, bits_field, wide_field};
-ghost use Rattle.calls.specs.CallText.{time_line, set_line, ext_line, loops_line};
+ghost use Rattle.calls.specs.CallText.{time_line, set_line, frame_line, loops_line};
 ghost use Rattle.calls.specs.CallText.{call_in, read_calls, line_count, call_list};
-ghost use Rattle.calls.specs.Read.{timed_call, time_of, ext_call, ext_of, behind, is_malformed, line_end_of, line_read};
-ghost use Rattle.calls.specs.Read.{no_call, call_at, CallRead, first_malformed};
+ghost use Rattle.calls.specs.Read.{timed_call, time_of, behind, is_malformed, line_end_of, line_read, no_call, call_at};
+ghost use Rattle.calls.specs.Read.{CallRead, first_malformed};
 
 use fields::{Field, byte, name_at, read_field, read_wide_bits};
 use float::{f32_from_bits, f64_from_bits};
@@ -17,7 +17,7 @@ pub const MAX_LIST: usize = 262_144;
 
 const DECIMAL_LIMIT: u16 = MAX_WORD as u16;
 
-// What a line asks for. A frame has its ext and the output's length, a close-up its ext and the joint.
+// What a line asks for. A frame has its ext and the output's length.
 #[derive(Drop)]
 pub enum Call {
     Malformed,
@@ -36,22 +36,11 @@ pub enum Call {
         ext: f64,
         length: usize,
     },
-    Joint {
-        ext: f64,
-        joint: usize,
-    },
     Loops {
         state: usize,
         node: usize,
         time: f32,
     },
-}
-
-// The calls whose lines have an ext and a decimal: of a frame the output's length, of a close-up the joint.
-#[derive(Drop)]
-enum ExtCall {
-    Frame(FrameKind),
-    Joint,
 }
 
 // A call and the place behind its line.
@@ -119,7 +108,6 @@ fn is_malformed(call: Call) -> bool
             ext: _,
             length: _,
         } => false,
-        Call::Joint { ext: _, joint: _ } => false,
         Call::Loops {
             state: _,
             node: _,
@@ -193,25 +181,8 @@ fn set_line(text: &[u8], at: usize) -> CallAt
     line_end(text, end, call)
 }
 
-fn with_ext(asked: ExtCall, ext: f64, number: usize) -> Call
-    ensures { result ≡ ext_call asked ext number }
-{
-    match asked {
-        ExtCall::Frame(kind) => Call::Frame {
-            kind: kind,
-            ext: ext,
-            length: number,
-        },
-        ExtCall::Joint => Call::Joint {
-            ext: ext,
-            joint: number,
-        },
-    }
-}
-
-// A frame of either kind, or a close-up.
-fn ext_line(text: &[u8], at: usize, asked: ExtCall) -> CallAt
-    ensures { CallRead text.now (ext_line (ext_of asked) (drop at text.now)) result }
+fn frame_line(text: &[u8], at: usize, kind: FrameKind) -> CallAt
+    ensures { CallRead text.now (frame_line kind (drop at text.now)) result }
 {
     let ext = wide_behind(text, at);
     let Field::Value {
@@ -221,11 +192,15 @@ fn ext_line(text: &[u8], at: usize, asked: ExtCall) -> CallAt
     else {
         return malformed();
     };
-    let decimal = decimal_behind(text, behind_ext);
-    let Field::Value { value: number, end } = decimal else {
+    let count = decimal_behind(text, behind_ext);
+    let Field::Value { value: length, end } = count else {
         return malformed();
     };
-    let call = with_ext(asked, f64_from_bits(value as u64), number);
+    let call = Call::Frame {
+        kind: kind,
+        ext: f64_from_bits(value as u64),
+        length: length,
+    };
     line_end(text, end, call)
 }
 
@@ -279,15 +254,11 @@ pub fn call_at(text: &[u8], at: usize) -> CallAt
     }
     let frame = name_at(text, at, b"frame");
     if frame > 0 {
-        return ext_line(text, at + frame, ExtCall::Frame(FrameKind::Ordinary));
+        return frame_line(text, at + frame, FrameKind::Ordinary);
     }
     let page = name_at(text, at, b"page");
     if page > 0 {
-        return ext_line(text, at + page, ExtCall::Frame(FrameKind::Page));
-    }
-    let joint = name_at(text, at, b"joint");
-    if joint > 0 {
-        return ext_line(text, at + joint, ExtCall::Joint);
+        return frame_line(text, at + page, FrameKind::Page);
     }
     let loops = name_at(text, at, b"loops");
     if loops > 0 {

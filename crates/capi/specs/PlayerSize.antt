@@ -1,4 +1,4 @@
--- The bytes of a host's player, and of the answers about what a figure can use, about loops and about one joint. They come from the structs' own types, by the memory that every proof here speaks of: each field begins at the next multiple
+-- The bytes of a host's player, and of the answers about what a figure can use and about loops. They come from the structs' own types, by the memory that every proof here speaks of: each field begins at the next multiple
 -- of its alignment, and the whole is a multiple of the largest. Definitions only.
 use Rattle.std.specs.Prelude.{ℕ}
 use Rattle.std.proofs.Math.Option.{Option, none, some}
@@ -7,7 +7,6 @@ use prog.Memory.{size, field_of}
 use Rattle.host_player.proofs.HostPlayer.TheLaws.{mir as player}
 use Rattle.host_uses.proofs.HostUses.TheLaws.{mir as uses}
 use Rattle.host_loops.proofs.HostLoops.TheLaws.{mir as loops}
-use Rattle.host_close_up.proofs.HostCloseUp.TheLaws.{mir as close_up}
 
 abbrev pub player_bytes : ℕ
 player_bytes = size player
@@ -33,10 +32,3 @@ loops_bytes = size loops
 
 abbrev pub loops_place : ℕ → ℕ
 loops_place k = place_in (field_of loops k)
-
--- and by `gentianlathe_joint`
-abbrev pub close_up_bytes : ℕ
-close_up_bytes = size close_up
-
-abbrev pub close_up_place : ℕ → ℕ
-close_up_place k = place_in (field_of close_up k)

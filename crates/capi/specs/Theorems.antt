@@ -12,7 +12,7 @@ use Rattle.round_trip.specs.Theorems.{words_most}
 use Rattle.host_player.specs.declared.HostTextAnswer.{HostTextAnswer}
 use Rattle.host_player.specs.HostPlayer.{host_text_answer}
 use Rattle.host_player.specs.HostPromises.{HostTextRead}
-use Rattle.capi.specs.PlayerSize.{player_bytes, field_place, uses_bytes, uses_place, loops_bytes, loops_place, close_up_bytes, close_up_place}
+use Rattle.capi.specs.PlayerSize.{player_bytes, field_place, uses_bytes, uses_place, loops_bytes, loops_place}
 
 module _ (text : List ℕ) (w n : ℕ) (words-room : max_plan ≤ w) (numbers-room : length text / number_bytes ≤ n) where
   never_short : (x : Reading) → read_figure text ≡ x → (host_text_answer (text_verdict x w n)).number ≡ 12 → ⊥
@@ -40,7 +40,3 @@ uses_laid_out = (refl, refl, refl, refl, refl)
 -- and of loops: place, the whole loops, the rest, and the end
 pub loops_laid_out : (loops_place 1 ≡ 8) × (loops_place 2 ≡ 16) × (loops_place 3 ≡ 24) × (loops_bytes ≡ 32)
 loops_laid_out = (refl, refl, refl, refl)
-
--- and of one joint: place, the matrix, and the end
-pub close_up_laid_out : (close_up_place 1 ≡ 8) × (close_up_place 2 ≡ 16) × (close_up_bytes ≡ 80)
-close_up_laid_out = (refl, refl, refl)

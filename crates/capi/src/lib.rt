@@ -6,12 +6,10 @@ ghost use Rattle.model.specs.Plan.{max_plan, joint_count, output_at};
 ghost use Rattle.model.specs.Program.{number_bytes};
 ghost use Rattle.host_player.specs.HostPromises.{HostStarted, HostUpdated, HostSpeedSet, HostParameterSet};
 ghost use Rattle.host_player.specs.HostPromises.{HostFramed, HostTextRead};
-ghost use Rattle.host_close_up.specs.HostCloseUp.{HostCloseUpShown};
 ghost use Rattle.host_uses.specs.HostUses.{HostUsesFound};
 ghost use Rattle.host_loops.specs.HostLoops.{HostLoopsCounted};
 ghost use Rattle.capi.specs.PlayerSize.{player_bytes};
 
-use host_close_up::{HostCloseUp, host_close_up};
 use host_loops::{HostLoops, host_loops};
 use host_player::{
     HostAnswer, HostParts, HostPlayer, HostTextAnswer, host_frame, host_text_answer, parameter_set,
@@ -133,24 +131,6 @@ pub extern "C" fn gentianlathe_page_frame(
         output.old output.new player.new result }
 {
     frame_in_place(FrameKind::Page, plan, numbers, player, ext, output)
-}
-
-// ---- one joint in close-up
-
-#[unsafe(no_mangle)]
-pub extern "C" fn gentianlathe_joint(
-    plan: &[u16],
-    numbers: &[f32],
-    player: &mut HostPlayer,
-    ext: f64,
-    joint: usize,
-) -> HostCloseUp
-    ensures { HostCloseUpShown plan.now numbers.now player.old ext joint
-        player.new result }
-{
-    let outcome = host_close_up(plan, numbers, *player, ext, joint);
-    *player = outcome.player;
-    outcome.answer
 }
 
 // ---- what a figure can use

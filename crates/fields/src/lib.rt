@@ -1,4 +1,4 @@
-// The name or the field at a place of a text. The cursor that walks over a line's fields is in `lines`.
+// The name or the field at a place of a text. The cursor that walks over a line's fields is in `text::lines`.
 ghost use Rattle.std.specs.Prelude.{◌≡◌, cond, ℕ, ◌+◌, ◌-◌, ◌<◌, ◌≤◌, ◌^◌, length, get_or, drop};
 ghost use Rattle.model.specs.Text.{digit, digit_count, begins};
 ghost use Rattle.model.specs.declared.FieldForm.TheVariants as FieldForm;

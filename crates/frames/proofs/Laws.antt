@@ -11,13 +11,12 @@ use Rattle.model.specs.declared.Answer.{Answer}
 use Rattle.model.specs.declared.Answer.TheVariants as answer
 use Rattle.model.specs.declared.FrameKind.{FrameKind}
 use Rattle.model.specs.declared.Player.{Player}
-use Rattle.model.specs.declared.Pose.{Pose}
 use Rattle.model.specs.Answers.{Verdict, accepted, refused, values, ◌then◌, require, unless_refused}
 use Rattle.model.specs.declared.Refusal.{Refusal}
 use Rattle.model.specs.Plan.{joint_count, state_count, output_at}
 use Rattle.model.specs.Check.{check}
-use Rattle.model.specs.Controller.{with_state, with_transition, with_instances, is_target_below, has_states, play_verdict, frame_verdict, now_at, step_from, elapsed}
-use Rattle.model.specs.Run.{frame_pose, frame_player, frame_matrices}
+use Rattle.model.specs.Controller.{with_state, with_transition, with_instances, is_target_below, has_states, frame_verdict, now_at, step_from, elapsed}
+use Rattle.model.specs.Run.{frame_player, frame_matrices}
 use Rattle.model.specs.Promises.{Framed}
 use Rattle.model.specs.Laws.Answers.{then_left, then_right, require_true}
 use Rattle.model.specs.Laws.Tests.{and_left, and_right}
@@ -33,7 +32,7 @@ use Rattle.transitions.specs.declared.Stepped.{Stepped}
 use Rattle.plan.specs.Checked.{verdict, layout_in, PlanChecked}
 use Rattle.blend_tree.specs.Blocks.{Playable}
 use Rattle.transitions.specs.Step.{StepMade}
-use Rattle.output_pose.specs.Shown.{Written, Shown}
+use Rattle.output_pose.specs.Shown.{Shown}
 use Rattle.frames.specs.Parts.{player_of, outcome_of, FrameAnswered, FramePlayed}
 use Rattle.frames.specs.declared.FrameParts.{FrameParts}
 use Rattle.frames.specs.declared.Parts.{Parts}
@@ -62,36 +61,15 @@ module _ (plan : List ℕ) (numbers : List Float) (p : Player) (ext : Float) (r 
   still_target ok h t =
       subst (λ (q : Player). is_target_below (state_count plan) q.transition ≡ true) step_is (step_target_below plan numbers p (now_at p ext) (state_passed plan (length numbers) ok p.state h) p.transition refl t)
 
-  module _ (here : StateLayout) (there : here ≡ state_layout plan r.state) (time : Float) (told : time ≡ elapsed p ext) (after : List Float) where
-    -- of whatever is shown
-    module _ {shows : (ℕ → Pose) → Type 0} (done : Shown shows plan numbers time (now_at p ext) here.state r.transition p.parameters p.instances after) where
-      pub player_shown : with_instances after_step after ≡ frame_player plan numbers p ext
-      unfolding frame_player
-      player_shown = rw (step_is, done.instances after_step (sym (same_state plan r.state there)) refl refl, told)
-
-      pub poses_shown : shows (frame_pose plan numbers p ext)
-      poses_shown = rw (step_is, frame_pose) (rw told at (done.output after_step (sym (same_state plan r.state there)) refl refl))
-
-    pub played : (kind : FrameKind) (old new : List Float) → Shown (Written kind plan old new) plan numbers time (now_at p ext) here.state r.transition p.parameters p.instances after
-        → FramePlayed kind plan numbers p ext old new (with_instances after_step after)
-    unfolding frame_matrices
-    played kind old new done = record { player = player_shown done; output = poses_shown done }
-
--- ---- refusals 1 to 9, of whatever plays a figure by a player
-
-module _ (plan : List ℕ) (numbers : List Float) (p : Player) where
-  pub check_refuses_play : (k : Checked) → PlanChecked plan (length numbers) k → (x : Refusal) → k ≡ checked.Refused x → play_verdict plan numbers p ≡ refused x.number x.place 0
-  unfolding verdict ◌then◌
-  check_refuses_play k done x e = rw (sym done.answer ∙ ap verdict e)
-
-  module _ {l : Layout} (ok : Playable plan numbers l) {has : Bool} (told : has ≡ has_states l.states p.state p.transition) where
-    pub player_refuses_play : has ≡ false → play_verdict plan numbers p ≡ refused 9 0 0
-    unfolding ◌then◌ require
-    player_refuses_play f = rw (ok.passed, ← states_found plan ok.found, ← told, f)
-
-    pub player_passes : has ≡ true → play_verdict plan numbers p ≡ accepted
-    unfolding ◌then◌ require
-    player_passes t = rw (ok.passed, ← states_found plan ok.found, ← told, t)
+  module _ (kind : FrameKind) (here : StateLayout) (there : here ≡ state_layout plan r.state) (time : Float) (told : time ≡ elapsed p ext) (after old new : List Float)
+      (done : Shown kind plan numbers time (now_at p ext) here.state r.transition p.parameters p.instances after old new) where
+    pub played : FramePlayed kind plan numbers p ext old new (with_instances after_step after)
+    unfolding frame_player frame_matrices
+    played =
+        record {
+          player = rw (step_is, done.instances after_step (sym (same_state plan r.state there)) refl refl, told);
+          output = rw step_is (rw told at (done.output after_step (sym (same_state plan r.state there)) refl refl));
+        }
 
 -- ---- the answers of a frame
 

@@ -57,7 +57,7 @@ pub fn has_states(states: usize, state: usize, transition: Transition) -> bool
 }
 
 // The layout of a state, which is often the one at hand.
-pub fn layout_of(plan: &[u16], layout: Layout, here: StateLayout, state: usize) -> StateLayout
+fn layout_of(plan: &[u16], layout: Layout, here: StateLayout, state: usize) -> StateLayout
     requires { Passes plan.now
         × (layout ≡ layout_of plan.now)
         × InPlan plan.now here

@@ -30,12 +30,12 @@ use Rattle.host_player.specs.HostParts.{host_of, UnpackedParts, PackedParts}
 pub between : (f : HostPlayer) {p q : Player} {r : HostPlayer} (call : Player → Player) → p ≡ unpacked f → q ≡ call p → r ≡ packed q → r ≡ packed (call (unpacked f))
 between f call e h k = k ∙ ap packed (h ∙ ap call e)
 
-pub kept : {X : Type 0} (v : Verdict) (new old : X) → (v ≡ accepted → ⊥) → unless_refused v new old ≡ old
+kept : {X : Type 0} (v : Verdict) (new old : X) → (v ≡ accepted → ⊥) → unless_refused v new old ≡ old
 unfolding unless_refused
 kept accepted new old h = absurd (h refl)
 kept (refused n m k) new old h = refl
 
-pub after_accepted : (v : Verdict) (p q : Player) (f : HostPlayer) → v ≡ accepted → q ≡ unless_refused v p (unpacked f) → packed q ≡ host_after v p f
+after_accepted : (v : Verdict) (p q : Player) (f : HostPlayer) → v ≡ accepted → q ≡ unless_refused v p (unpacked f) → packed q ≡ host_after v p f
 unfolding unless_refused
 after_accepted v p q f e h = rw e (ap packed (rw e at h))
 

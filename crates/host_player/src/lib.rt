@@ -143,7 +143,7 @@ pub fn unpack(flat: HostPlayer) -> Player
     }
 }
 
-pub fn pack(player: Player) -> HostPlayer
+fn pack(player: Player) -> HostPlayer
     ensures { result ≡ packed player }
 {
     let parameters = player.parameters;

@@ -18,11 +18,10 @@ use Rattle.model.specs.Numbers.{floor_index}
 use Rattle.model.specs.Plan.{state_count, node_count, is_clip, input_a, clip_node_at, sample_count, is_empty, is_stopping}
 use Rattle.model.specs.Check.{check}
 use Rattle.model.specs.Clips.{local_time, instance_at, position_of, sampled_position}
-use Rattle.model.specs.Controller.{play_verdict}
+use Rattle.model.specs.Controller.{has_states, play_verdict}
 use Rattle.model.specs.Loops.{is_clip_node, is_looping, loops_verdict, played_index, whole_loops, loop_rest}
 use Rattle.model.specs.Promises.{LoopsCounted}
 use Rattle.model.specs.Repeats.{equation, bound}
-use Rattle.model.specs.Laws.Answers.{then_refused}
 use Rattle.layout.specs.declared.Layout.{Layout}
 use Rattle.layout.specs.declared.StateLayout.{StateLayout}
 use Rattle.layout.specs.declared.Node.{Node}
@@ -35,7 +34,6 @@ use Rattle.plan.specs.Checked.{verdict, PlanChecked}
 use Rattle.blend_tree.specs.declared.sampling.Clip.{Clip}
 use Rattle.blend_tree.specs.Blocks.{Playable}
 use Rattle.blend_tree.specs.Sampling.{clip_of, position_at}
-use Rattle.frames.proofs.Laws.{check_refuses_play}
 use Rattle.loops.specs.Counting.{NothingCounted, RefusedWith, IndexCounted, CountedAt}
 
 -- ---- a verdict, and what is answered by it
@@ -72,14 +70,22 @@ module _ (plan : List ℕ) (numbers : List Float) (p : Player) (s n : ℕ) (time
 
   -- ---- refusals 1 to 9
 
-  pub play_refused : (k m : ℕ) → play_verdict plan numbers p ≡ refused k m 0 → {a : Answer} → values a ≡ refused k m 0 → {r : LoopCount} → NothingCounted a r → LoopsCounted plan numbers p s n time r
-  unfolding loops_verdict
-  play_refused k m v = refused_counted k m (then_refused _ _ k m 0 (then_refused _ _ k m 0 v))
-
   pub check_handed : (k : Checked) → PlanChecked plan (length numbers) k → (x : Refusal) → k ≡ checked.Refused x → {a : Answer} → values a ≡ verdict k → {r : LoopCount}
       → NothingCounted a r → LoopsCounted plan numbers p s n time r
-  unfolding verdict
-  check_handed k done x e told = play_refused x.number x.place (check_refuses_play plan numbers p k done x e) (told ∙ ap verdict e)
+  unfolding verdict loops_verdict ◌then◌
+  check_handed k done x e told =
+      let v = sym done.answer ∙ ap verdict e in
+      refused_counted x.number x.place (rw v) (told ∙ ap verdict e)
+
+  module _ {l : Layout} (ok : Playable plan numbers l) {has : Bool} (told : has ≡ has_states l.states p.state p.transition) where
+    pub player_refused : has ≡ false → {a : Answer} → values a ≡ refused 9 0 0 → {r : LoopCount} → NothingCounted a r → LoopsCounted plan numbers p s n time r
+    unfolding loops_verdict ◌then◌ require
+    player_refused f = refused_counted 9 0 (rw (ok.passed, ← states_found plan ok.found, ← told, f))
+
+pub player_passes : (plan : List ℕ) (numbers : List Float) (p : Player) {l : Layout} → Playable plan numbers l → {has : Bool} → has ≡ has_states l.states p.state p.transition
+    → has ≡ true → play_verdict plan numbers p ≡ accepted
+unfolding ◌then◌ require
+player_passes plan numbers p ok told t = rw (ok.passed, ← states_found plan ok.found, ← told, t)
 
 -- ---- refusals 16 and 17, and the count, of any player with these instances
 

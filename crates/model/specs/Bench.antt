@@ -127,7 +127,7 @@ printed_starts = refl
 
 pub printed_shows :
     chosen_floats printed_plan printed_numbers (0 ∷ []) (start_player printed_plan printed_numbers) (Frame Ordinary 0f 16)
-    ≡ (0, 1f ∷ 0f ∷ 0f ∷ 1f ∷ 0f ∷ 1f ∷ 0f ∷ 2f ∷ 0f ∷ 0f ∷ 1f ∷ 3f ∷ 0f ∷ 0f ∷ 0f ∷ 1f ∷ []) ∷ []
+    ≡ (1f ∷ 0f ∷ 0f ∷ 1f ∷ 0f ∷ 1f ∷ 0f ∷ 2f ∷ 0f ∷ 0f ∷ 1f ∷ 3f ∷ 0f ∷ 0f ∷ 0f ∷ 1f ∷ []) ∷ []
 unfolding all_opened printed_plan printed_numbers
 printed_shows = refl
 

@@ -13,7 +13,6 @@ pub mod Trees
 pub mod Clips
 pub mod Touched
 pub mod Loops
-pub mod CloseUp
 pub mod Passed
 pub mod Reached
 pub mod Steps

@@ -10,7 +10,6 @@ pub mod Table
 pub mod Tree
 pub mod Controller
 pub mod Skeleton
-pub mod CloseUp
 pub mod Loops
 pub mod Run
 pub mod Uses
@@ -34,4 +33,3 @@ pub mod ExactlyOne
 pub mod Chains
 pub mod Unused
 pub mod Repeats
-pub mod CloseUps

@@ -55,7 +55,7 @@ module _ (plan : List ℕ) (numbers : List Float) (p : Player) (ext : Float) (ki
       rw (e, same) at (entry_of j h)
 
   -- 'their 16 floats are compared like a frame's': what the run by definition shows of the chosen joints
-  pub chosen_shown : (chosen : List ℕ) (output_length : ℕ) → chosen_floats plan numbers chosen p (Frame kind ext output_length) ≡ map (λ j. (j, floats (matrix_shown j))) chosen
+  pub chosen_shown : (chosen : List ℕ) (output_length : ℕ) → chosen_floats plan numbers chosen p (Frame kind ext output_length) ≡ map (λ j. floats (matrix_shown j)) chosen
   unfolding chosen_floats
   chosen_shown chosen output_length = refl
 

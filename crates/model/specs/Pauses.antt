@@ -91,7 +91,7 @@ abbrev Shows : List ℕ → Float → Float → Float → Type 0
 Shows plan rate other ext =
     let numbers : List Float = rate ∷ other ∷ [] in
     chosen_floats plan numbers (0 ∷ []) (start_player plan numbers) (Frame Ordinary ext 16)
-    ≡ (0, 1f ∷ 0f ∷ 0f ∷ 0f ∷ 0f ∷ 1f ∷ 0f ∷ 0f ∷ 0f ∷ 0f ∷ 1f ∷ 0f ∷ 0f ∷ 0f ∷ 0f ∷ 1f ∷ []) ∷ []
+    ≡ (1f ∷ 0f ∷ 0f ∷ 0f ∷ 0f ∷ 1f ∷ 0f ∷ 0f ∷ 0f ∷ 0f ∷ 1f ∷ 0f ∷ 0f ∷ 0f ∷ 0f ∷ 1f ∷ []) ∷ []
 
 pub pause_shown : (rate other ext : Float) → Shows (two_clips 0 0 0 0) rate other ext × Shows (two_clips 0 1 0 0) rate other ext
 unfolding all_opened

@@ -1,22 +1,18 @@
 -- What each public call ensures, as one record a call with an equation for everything that it returns or writes. Definitions only.
 -- The calls' contracts cite these records, and so do the traces of demand 3.
-use Rattle.std.specs.Prelude.{ℕ, ◌+◌, ◌*◌, ◌<◌, ◌≡◌, false, List, length, replicate, Float}
+use Rattle.std.specs.Prelude.{ℕ, ◌+◌, ◌*◌, ◌<◌, ◌≡◌, false, List, length, Float}
 use Rattle.model.specs.declared.Player.{Player}
 use Rattle.model.specs.declared.Outcome.{Outcome}
 use Rattle.model.specs.declared.TextAnswer.{TextAnswer}
 use Rattle.model.specs.declared.FrameKind.{FrameKind}
-use Rattle.model.specs.declared.CloseUp.{CloseUp}
 use Rattle.model.specs.declared.Uses.{Uses}
 use Rattle.model.specs.declared.LoopCount.{LoopCount}
-use Rattle.model.specs.Numbers.{0f}
 use Rattle.model.specs.Answers.{accepted, values, unless_refused}
-use Rattle.model.specs.Rotations.{floats}
 use Rattle.model.specs.Plan.{max_clips, max_parameters, max_states}
 use Rattle.model.specs.Controller.{with_speed, updated, parameter_set, set_verdict, frame_verdict}
 use Rattle.model.specs.Skeleton.{written}
 use Rattle.model.specs.Text.{read_figure, text_values, text_verdict, when_accepted, overwritten, read_words, read_floats}
-use Rattle.model.specs.CloseUp.{close_up_verdict}
-use Rattle.model.specs.Run.{start_verdict, start_player, frame_player, frame_matrices, close_up_matrix}
+use Rattle.model.specs.Run.{start_verdict, start_player, frame_player, frame_matrices}
 use Rattle.model.specs.Uses.{marks, state_marks, parameter_marks, clip_marks}
 use Rattle.model.specs.Loops.{loops_verdict, loop_length, played_index, whole_loops, loop_rest}
 
@@ -39,12 +35,6 @@ pub record Framed (kind : FrameKind) (plan : List ℕ) (numbers : List Float) (p
   pub answer : values r.answer ≡ frame_verdict plan numbers p (length old)
   pub player : r.player ≡ unless_refused (frame_verdict plan numbers p (length old)) (frame_player plan numbers p ext) p
   pub output : new ≡ unless_refused (frame_verdict plan numbers p (length old)) (written plan (frame_matrices plan numbers p ext kind) old) old
-
--- sixteen floats, all 0 where the close-up is refused
-pub record CloseUpShown (plan : List ℕ) (numbers : List Float) (p : Player) (ext : Float) (j : ℕ) (r : CloseUp) : Type 0 where
-  pub answer : values r.answer ≡ close_up_verdict plan numbers p j
-  pub player : r.player ≡ unless_refused (close_up_verdict plan numbers p j) (frame_player plan numbers p ext) p
-  pub matrix : r.matrix ≡ unless_refused (close_up_verdict plan numbers p j) (floats (close_up_matrix plan numbers p ext j)) (replicate 16 0f)
 
 -- marks, all false where the figure is refused
 pub record UsesFound (plan : List ℕ) (numbers : List Float) (r : Uses) : Type 0 where

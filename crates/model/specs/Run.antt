@@ -1,7 +1,6 @@
 -- Document 01, the calls, and the run by definition with what is compared of it. Definitions only.
-use Rattle.std.specs.Prelude.{ℕ, cond, List, [], ◌∷◌, map, get_or, length, eqb, Float}
+use Rattle.std.specs.Prelude.{ℕ, List, [], ◌∷◌, map, get_or, length, Float}
 use Rattle.model.specs.declared.Player.{Player}
-use Rattle.model.specs.declared.Pose.{Pose}
 use Rattle.model.specs.declared.Transition.{Transition}
 use Rattle.model.specs.declared.Matrix4.{Matrix4}
 use Rattle.model.specs.declared.FrameKind.{FrameKind}
@@ -11,7 +10,6 @@ use Rattle.model.specs.Plan.{joint_count}
 use Rattle.model.specs.Check.{check}
 use Rattle.model.specs.Controller.{blank, with_speed, fresh, updated, parameter_set, set_verdict, frame_verdict, now_at, stepped, elapsed, synchronized, joint_pose}
 use Rattle.model.specs.Skeleton.{joint_matrices}
-use Rattle.model.specs.CloseUp.{close_up_verdict, chain_matrix}
 use Rattle.model.specs.Loops.{loops_verdict, whole_loops, loop_rest}
 
 -- ---- start: the answer and the player
@@ -22,25 +20,18 @@ start_verdict plan numbers = check plan (length numbers)
 unfoldable pub start_player : List ℕ → List Float → Player
 start_player plan numbers = unless_refused (start_verdict plan numbers) (fresh plan numbers) blank
 
--- ---- a frame and a page frame: the player and the matrices of an accepted one; a close-up has a frame's player, and one matrix
+-- ---- a frame and a page frame: the player and the matrices of an accepted one
 
 module _ (plan : List ℕ) (numbers : List Float) (p : Player) (ext : Float) where
   -- step 1
   abbrev pub frame_stepped : Player
   frame_stepped = stepped plan numbers (now_at p ext) p
 
-  -- step 2
-  abbrev pub frame_pose : ℕ → Pose
-  frame_pose j = joint_pose plan numbers (elapsed p ext) frame_stepped (now_at p ext) j
-
   unfoldable pub frame_player : Player
   frame_player = synchronized plan numbers (elapsed p ext) frame_stepped
 
   unfoldable pub frame_matrices : FrameKind → List Matrix4
-  frame_matrices kind = joint_matrices kind plan frame_pose (joint_count plan)
-
-  unfoldable pub close_up_matrix : ℕ → Matrix4
-  close_up_matrix j = chain_matrix frame_pose plan j
+  frame_matrices kind = joint_matrices kind plan (joint_pose plan numbers (elapsed p ext) frame_stepped (now_at p ext)) (joint_count plan)
 
 -- ---- calls
 
@@ -49,8 +40,6 @@ pub data Call : Type 0 where
   Set : ℕ → Float → Call
   -- ext, and the output's length
   Frame : FrameKind → Float → ℕ → Call
-  -- document 02, Card 6, a close-up: ext and joint
-  Joint : Float → ℕ → Call
   -- document 02, Card 7, a question: state, node and time
   Loops : ℕ → ℕ → Float → Call
 
@@ -59,7 +48,6 @@ call_verdict plan numbers p (Update delta) = accepted
 call_verdict plan numbers p (Speed v) = accepted
 call_verdict plan numbers p (Set n v) = set_verdict n
 call_verdict plan numbers p (Frame kind ext output_length) = frame_verdict plan numbers p output_length
-call_verdict plan numbers p (Joint ext j) = close_up_verdict plan numbers p j
 call_verdict plan numbers p (Loops s n time) = loops_verdict plan numbers p s n
 
 unfoldable pub changed : List ℕ → List Float → Player → Call → Player
@@ -67,25 +55,18 @@ changed plan numbers p (Update delta) = updated p delta
 changed plan numbers p (Speed v) = with_speed p v
 changed plan numbers p (Set n v) = parameter_set p n v
 changed plan numbers p (Frame kind ext output_length) = frame_player plan numbers p ext
-changed plan numbers p (Joint ext j) = frame_player plan numbers p ext
 changed plan numbers p (Loops s n time) = p
 
 -- a refused call leaves the player
 unfoldable pub after : List ℕ → List Float → Player → Call → Player
 after plan numbers p c = unless_refused (call_verdict plan numbers p c) (changed plan numbers p c) p
 
--- of the chosen joints those that a close-up of joint j shows
-unfoldable pub shown_among : List ℕ → ℕ → List ℕ
-shown_among [] j = []
-shown_among (k ∷ chosen) j = cond (eqb k j) (k ∷ shown_among chosen j) (shown_among chosen j)
-
--- what the chosen joints show in a call that is accepted, each with its number
-unfoldable pub chosen_floats : List ℕ → List Float → List ℕ → Player → Call → List (ℕ × List Float)
+-- what the chosen joints show in a call that is accepted
+unfoldable pub chosen_floats : List ℕ → List Float → List ℕ → Player → Call → List (List Float)
 chosen_floats plan numbers chosen p (Update delta) = []
 chosen_floats plan numbers chosen p (Speed v) = []
 chosen_floats plan numbers chosen p (Set n v) = []
-chosen_floats plan numbers chosen p (Frame kind ext output_length) = map (λ j. (j, floats (get_or (frame_matrices plan numbers p ext kind) j identity_matrix))) chosen
-chosen_floats plan numbers chosen p (Joint ext j) = map (λ k. (k, floats (close_up_matrix plan numbers p ext k))) (shown_among chosen j)
+chosen_floats plan numbers chosen p (Frame kind ext output_length) = map (λ j. floats (get_or (frame_matrices plan numbers p ext kind) j identity_matrix)) chosen
 chosen_floats plan numbers chosen p (Loops s n time) = []
 
 -- what a question that is accepted is told: loops and rest. The chosen joints do not see it: it may be about a state that is not reachable
@@ -94,7 +75,6 @@ told plan numbers p (Update delta) = []
 told plan numbers p (Speed v) = []
 told plan numbers p (Set n v) = []
 told plan numbers p (Frame kind ext output_length) = []
-told plan numbers p (Joint ext j) = []
 told plan numbers p (Loops s n time) = whole_loops plan numbers p s n time ∷ loop_rest plan numbers p s n time ∷ []
 
 -- ---- the run by definition
@@ -106,10 +86,10 @@ pub record Observation : Type 0 where
   pub speed : Float
   pub state : ℕ
   pub transition : Transition
-  -- by chosen joint; empty unless a frame was accepted, or a close-up of one of them
-  pub matrices : List (ℕ × List Float)
+  -- by chosen joint; empty unless a frame was accepted
+  pub matrices : List (List Float)
 
-unfoldable pub observation : Verdict → Player → List (ℕ × List Float) → Observation
+unfoldable pub observation : Verdict → Player → List (List Float) → Observation
 observation v p ms = record { answer = v; clock = p.clock; speed = p.speed; state = p.state; transition = p.transition; matrices = unless_refused v ms [] }
 
 module _ (plan : List ℕ) (numbers : List Float) (chosen : List ℕ) where

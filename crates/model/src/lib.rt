@@ -2,7 +2,7 @@
 ghost use Rattle.std.specs.Prelude.{◌≡◌};
 ghost use Rattle.model.specs.Answers.{values, refused};
 
-use crate::limits::{MATRIX_FLOATS, MAX_CLIPS, MAX_INSTANCES, MAX_PARAMETERS, MAX_STATES};
+use crate::limits::{MAX_CLIPS, MAX_INSTANCES, MAX_PARAMETERS, MAX_STATES};
 
 pub mod limits;
 
@@ -146,15 +146,6 @@ pub struct LoopCount {
     pub answer: Answer,
     pub loops: usize,
     pub rest: usize,
-}
-
-// One joint (document 02, Card 6): its matrix by rows, as a frame has it in its output, and the player to go on with. Where it is
-// refused the floats are 0, and the player is the one given.
-#[derive(Drop)]
-pub struct CloseUp {
-    pub answer: Answer,
-    pub player: Player,
-    pub matrix: [f32; MATRIX_FLOATS],
 }
 
 // ---- text

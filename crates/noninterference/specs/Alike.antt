@@ -5,7 +5,7 @@ use mathlib.Core.List.{List, [], ◌∷◌, Memᴰ}
 use Rattle.std.specs.Float.{nan}
 use Rattle.model.specs.declared.FrameKind.{FrameKind}
 use Rattle.model.specs.Plan.{joint_count, parent, is_root, NumberName, number_at}
-use Rattle.model.specs.Run.{Call, Update, Speed, Set, Frame, Joint, Loops}
+use Rattle.model.specs.Run.{Call, Update, Speed, Set, Frame, Loops}
 use Rattle.model.specs.Uses.{is_marked, parameter_marks}
 use Rattle.model.specs.Unseen.{HasNumber, Unseen}
 
@@ -32,7 +32,6 @@ pub data AlikeCall (plan : List ℕ) : Call → Call → Type 0 where
   speeds : (v : Float) → AlikeCall plan (Speed v) (Speed v)
   sets : (n : ℕ) (v w : Float) → (is_marked (parameter_marks plan) n ≡ true → v ≡ w) → AlikeCall plan (Set n v) (Set n w)
   frames : (kind : FrameKind) (ext : Float) (output_length : ℕ) → AlikeCall plan (Frame kind ext output_length) (Frame kind ext output_length)
-  close_ups : (ext : Float) (j : ℕ) → AlikeCall plan (Joint ext j) (Joint ext j)
   questions : (s n : ℕ) (time : Float) → AlikeCall plan (Loops s n time) (Loops s n time)
 
 -- one by one

@@ -19,7 +19,7 @@ use Rattle.model.specs.Unseen.{Reachable, by_clip}
 use Rattle.model.specs.Laws.Loops.{is_clip_node_lem}
 use Rattle.model.specs.Laws.Reached.{marked_reachable}
 use Rattle.model.specs.Laws.Tests.{and_left, and_right}
-use Rattle.noninterference.specs.Alike.{Closed, AlikeNumbers, AlikeCall, updates, speeds, sets, frames, close_ups, questions, AlikeCalls, none, next}
+use Rattle.noninterference.specs.Alike.{Closed, AlikeNumbers, AlikeCall, updates, speeds, sets, frames, questions, AlikeCalls, none, next}
 use Rattle.noninterference.specs.Trace.{Event, Trace, Session, calls, of_reachable, told_in}
 use Rattle.noninterference.specs.Laws.Lists.{cond_same}
 use Rattle.noninterference.specs.Laws.Numbers.{rate_same}
@@ -72,7 +72,6 @@ module _ (plan chosen : List ℕ) (a b : List Float) (ok : check plan (length a)
     told_same (speeds v) = refl
     told_same (sets n v w e) = refl
     told_same (frames kind ext len) = refl
-    told_same (close_ups ext j) = refl
     told_same (questions s n time) =
         cond_same (is_marked (state_marks plan) s)
         (λ m. let r = marked_reachable plan (length a) ok m in

@@ -3,15 +3,14 @@ use Rattle.std.specs.Prelude.{ℕ, ◌≡◌, cond, List, [], ◌∷◌, map, le
 use Rattle.model.specs.declared.Player.{Player}
 use Rattle.model.specs.declared.Outcome.{Outcome}
 use Rattle.model.specs.declared.FrameKind.{FrameKind}
-use Rattle.model.specs.declared.CloseUp.{CloseUp}
 use Rattle.model.specs.declared.LoopCount.{LoopCount}
 use Rattle.model.specs.Answers.{Verdict, accepted, values}
 use Rattle.model.specs.Plan.{output_at}
-use Rattle.model.specs.Run.{Call, Update, Speed, Set, Frame, Joint, Loops, shown_among, Observation, observation}
+use Rattle.model.specs.Run.{Call, Update, Speed, Set, Frame, Loops, Observation, observation}
 use Rattle.model.specs.Uses.{is_marked, state_marks}
-use Rattle.model.specs.Promises.{Started, Updated, SpeedSet, ParameterSet, Framed, CloseUpShown, LoopsCounted}
+use Rattle.model.specs.Promises.{Started, Updated, SpeedSet, ParameterSet, Framed, LoopsCounted}
 
--- a call, its answer, the player that it returned, the output buffer after it or a close-up's floats, and what a question was told
+-- a call, its answer, the player that it returned, the output buffer after it, and what a question was told
 pub record Event : Type 0 where
   pub call : Call
   pub answer : Verdict
@@ -30,8 +29,6 @@ pub data Trace (plan : List ℕ) (numbers : List Float) : Player → List Event 
       → Trace plan numbers p (record { call = Set n v; answer = values r.answer; player = r.player; output = []; told = [] } ∷ es)
   frame : {p : Player} {r : Outcome} {es : List Event} (kind : FrameKind) (ext : Float) (old new : List Float) → Framed kind plan numbers p ext old new r → Trace plan numbers r.player es
       → Trace plan numbers p (record { call = Frame kind ext (length old); answer = values r.answer; player = r.player; output = new; told = [] } ∷ es)
-  close_up : {p : Player} {r : CloseUp} {es : List Event} (ext : Float) (j : ℕ) → CloseUpShown plan numbers p ext j r → Trace plan numbers r.player es
-      → Trace plan numbers p (record { call = Joint ext j; answer = values r.answer; player = r.player; output = r.matrix; told = [] } ∷ es)
   -- a question only reads the player: the next call gets the same
   ask_loops : {p : Player} {r : LoopCount} {es : List Event} (s n : ℕ) (time : Float) → LoopsCounted plan numbers p s n time r → Trace plan numbers p es
       → Trace plan numbers p (record { call = Loops s n time; answer = values r.answer; player = p; output = []; told = r.loops ∷ r.rest ∷ [] } ∷ es)
@@ -48,12 +45,11 @@ calls es = map (λ e. e.call) es
 
 -- ---- what is compared of an event, taken from the program's own results
 
-unfoldable pub output_floats : List ℕ → Call → List Float → List (ℕ × List Float)
+unfoldable pub output_floats : List ℕ → Call → List Float → List (List Float)
 output_floats chosen (Update delta) output = []
 output_floats chosen (Speed v) output = []
 output_floats chosen (Set n v) output = []
-output_floats chosen (Frame kind ext output_length) output = map (λ j. (j, take 16 (drop (output_at j) output))) chosen
-output_floats chosen (Joint ext j) output = map (λ k. (k, output)) (shown_among chosen j)
+output_floats chosen (Frame kind ext output_length) output = map (λ j. take 16 (drop (output_at j) output)) chosen
 output_floats chosen (Loops s n time) output = []
 
 unfoldable pub observed : List ℕ → Event → Observation
@@ -65,7 +61,6 @@ of_reachable plan (Update delta) told = []
 of_reachable plan (Speed v) told = []
 of_reachable plan (Set n v) told = []
 of_reachable plan (Frame kind ext output_length) told = []
-of_reachable plan (Joint ext j) told = []
 of_reachable plan (Loops s n time) told = cond (is_marked (state_marks plan) s) told []
 
 unfoldable pub told_in : List ℕ → Event → List ℕ

@@ -9,7 +9,6 @@ use Rattle.std.proofs.lemmas.List.{length-replicate}
 use Rattle.std.specs.Float.{nan}
 use Rattle.model.specs.declared.Player.{Player}
 use Rattle.model.specs.declared.Outcome.{Outcome}
-use Rattle.model.specs.declared.CloseUp.{CloseUp}
 use Rattle.model.specs.declared.LoopCount.{LoopCount}
 use Rattle.model.specs.Numbers.{0f}
 use Rattle.model.specs.declared.Answer.{Answer}
@@ -17,11 +16,9 @@ use Rattle.model.specs.Answers.{accepted, values, unless_refused}
 use Rattle.model.specs.Plan.{byte_root, joint_count, is_root, Rate, Value, Duration, PoseFloat}
 use Rattle.model.specs.Check.{check}
 use Rattle.model.specs.Controller.{with_speed, updated, parameter_set, set_verdict, frame_verdict}
-use Rattle.model.specs.Rotations.{floats}
 use Rattle.model.specs.Skeleton.{written}
-use Rattle.model.specs.CloseUp.{close_up_verdict}
 use Rattle.model.specs.Loops.{loops_verdict, whole_loops, loop_rest}
-use Rattle.model.specs.Run.{start_verdict, start_player, frame_player, frame_matrices, close_up_matrix, Call, Update, Speed, Set, Frame, Joint, Loops}
+use Rattle.model.specs.Run.{start_verdict, start_player, frame_player, frame_matrices, Call, Update, Speed, Set, Frame, Loops}
 use Rattle.model.specs.Uses.{is_marked, parameter_marks}
 use Rattle.model.specs.Promises.{LoopsCounted}
 use Rattle.model.specs.Repeats.{equation, bound}
@@ -30,8 +27,8 @@ use Rattle.model.specs.Unused.{two_states, first_only, unused_unseen}
 use Rattle.model.specs.Laws.Opened.{check_opened}
 use Rattle.model.specs.Laws.Marks.{unlike}
 use Rattle.noninterference.specs.Alike.{Closed, UnseenAt, AlikeNumbers, AlikeCall, sets}
-use Rattle.noninterference.specs.Laws.Answers.{Answerable, require_answerable, check_answerable, frame_answerable, close_up_answerable, loops_answerable}
-use Rattle.noninterference.specs.Trace.{Event, Trace, end, update, set_speed, set_parameter, frame, close_up, ask_loops, Session, calls}
+use Rattle.noninterference.specs.Laws.Answers.{Answerable, require_answerable, check_answerable, frame_answerable, loops_answerable}
+use Rattle.noninterference.specs.Trace.{Event, Trace, end, update, set_speed, set_parameter, frame, ask_loops, Session, calls}
 
 -- ---- sessions
 
@@ -79,12 +76,6 @@ module _ (plan : List ℕ) (numbers : List Float) where
         trace = frame {r = r} kind ext old (unless_refused v (written plan (frame_matrices plan numbers p ext kind) old) old) (record { answer = x.is; player = refl; output = refl }) f.trace;
         called = ap₂ (λ (n : ℕ) (l : List Call). Frame kind ext n ∷ l) (length-replicate len 0f) f.called;
       }
-  perform p (Joint ext j ∷ cs) =
-      let v = close_up_verdict plan numbers p j in
-      let x : Answerable v = close_up_answerable plan numbers p j in
-      let r : CloseUp = record { answer = x.answer; player = unless_refused v (frame_player plan numbers p ext) p; matrix = unless_refused v (floats (close_up_matrix plan numbers p ext j)) (replicate 16 0f) } in
-      let f : Performed plan numbers r.player cs = perform r.player cs in
-      record { events = _; trace = close_up {r = r} ext j (record { answer = x.is; player = refl; matrix = refl }) f.trace; called = ap (λ (l : List Call). Joint ext j ∷ l) f.called }
   perform p (Loops s n time ∷ cs) =
       let v = loops_verdict plan numbers p s n in
       let x : Answerable v = loops_answerable plan numbers p s n in

@@ -31,7 +31,7 @@ use Rattle.blend_tree.proofs.SynchronizeLaws.{other_untouched}
 use Rattle.blend_tree.proofs.PoseLaws.{of_clip, root_pose}
 use Rattle.skeleton.specs.Buffer.{stored, joints_written}
 use Rattle.skeleton.proofs.Laws.{root_written}
-use Rattle.output_pose.specs.Shown.{Written, JointShown, Shown}
+use Rattle.output_pose.specs.Shown.{JointShown, Shown}
 use Rattle.output_pose.proofs.Laws.{shown_idle}
 
 module _ {plan : List ℕ} {numbers : List Float} {layout : Layout} {here : StateLayout} (ok : Playable plan numbers layout) (inside : InPlan plan here) (one : here.nodes ≡ 1) where
@@ -62,9 +62,9 @@ module _ {plan : List ℕ} {numbers : List Float} {layout : Layout} {here : Stat
 
   -- so what is shown of it is what an idle player shows, whatever its parameters
   pub shown_alone : (kind : FrameKind) (parameters : List Float) (time instant : Float) (t : Transition) (instances old new : List Float) → t ≡ Idle → JointShown kind plan numbers time here.state instances old new
-      → Shown (Written kind plan old new) plan numbers time instant here.state t parameters instances instances
+      → Shown kind plan numbers time instant here.state t parameters instances instances old new
   shown_alone kind parameters time instant t instances old new idle s =
-      shown_idle (Written kind plan old new) plan numbers time instant here.state parameters instances t instances idle (record { instances = alone parameters time instances; output = s.output parameters })
+      shown_idle kind plan numbers time instant here.state parameters instances old t instances new idle (record { instances = alone parameters time instances; output = s.output parameters })
 
   -- the state's pose is its clip's
   pub only_pose : {words : Node} {instance : ClipInstance} → words ≡ node_of plan here.state 0 → (time : Float) (instances : List Float)

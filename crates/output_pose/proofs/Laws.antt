@@ -1,8 +1,8 @@
 -- A skeleton written block by block, and what a frame's steps 2 and 3 show in either case of the transition. Assumes nothing.
 use borrow.Author.Rules.{rules}
-use Prim.Native.Nat.{ℕ, ◌+◌, ◌-◌, ◌<◌, ◌≤◌}
+use Prim.Native.Nat.{ℕ, ◌+◌, ◌<◌, ◌≤◌}
 use native.Mathlib.Omega.{arith}
-use mathlib.Core.Path.{◌≡◌, refl, ap, ◌∙◌}
+use mathlib.Core.Path.{◌≡◌, refl, ◌∙◌}
 use mathlib.Core.Bool.{true}
 use mathlib.Core.List.{List}
 use lib.ListN.{length}
@@ -21,19 +21,23 @@ use Rattle.model.specs.Controller.{is_target_below, transition_factor, current_i
 use Rattle.model.specs.Skeleton.{joint_matrices, flat, written}
 use Rattle.layout.specs.declared.Layout.{Layout}
 use Rattle.layout.proofs.Laws.{joints_found}
-use Rattle.lanes.specs.Lanes.{block_size}
+use Rattle.lanes.specs.Lanes.{block_size, lane_at}
 use Rattle.blend_tree.specs.declared.StateAt.{StateAt}
 use Rattle.blend_tree.specs.declared.Joints.{Joints}
-use Rattle.blend_tree.specs.Blocks.{joint_in, Filled, FilledFor, Playable, InBlock, SlottedState, state_pose_at}
+use Rattle.blend_tree.specs.Blocks.{Filled, Playable, InBlock, SlottedState, state_pose_at}
 use Rattle.blend_tree.proofs.NodeLaws.{passes}
-use Rattle.blend_tree.proofs.JointLaws.{row_lane}
 use Rattle.skeleton.specs.Buffer.{HasRoom, GlobalPoses, joints_written}
 use Rattle.output_pose.specs.declared.Blend.{Blend}
 use Rattle.output_pose.specs.declared.Blend.TheVariants.{Alone, Towards}
-use Rattle.output_pose.specs.Shown.{skeleton_of, shown_pose, TargetReady, Ready, BlendedTowards, StateShown, TargetSynchronized, Blended, Shown}
+use Rattle.output_pose.specs.Shown.{skeleton_of, shown_pose, TargetReady, Ready, StateShown, TargetSynchronized, Blended, Shown}
 use Rattle.output_pose.specs.contracts.Blend.{the_type as blend-type}
 
 -- ---- blocks
+
+-- two blocks blended lane by lane
+pub blended : (f g : ℕ → Pose) (factor : Float) (count : ℕ) (x y z : List Float) → Filled f count x → Filled g count y
+    → Filled (λ i. lerp (lane_at x i) (lane_at y i) factor) count z → Filled (λ i. lerp (f i) (g i) factor) count z
+blended f g factor count x y z hx hy hz i h = rw (hz i h, hx i h, hy i h)
 
 -- what the tag tells of a blend, and what it makes of the poses
 pub is_alone : (b : Blend) → tag_of blend-type b ≡ 0 → b ≡ Alone
@@ -50,23 +54,10 @@ module _ (plan : List ℕ) (numbers parameters current instances : List Float) (
   unfolding shown_pose
   pose_towards e = rw e
 
--- so of a block: as the state alone filled it, and as it was then blended
-module _ (plan : List ℕ) (numbers parameters current instances : List Float) (joints : Joints) (state : StateAt) (block : List Float) (filled : FilledFor plan joints block (state_pose_at plan numbers parameters state current)) where
-  pub block_alone : {b : Blend} → b ≡ Alone → FilledFor plan joints block (λ j. shown_pose plan numbers parameters current instances j state b)
-  block_alone e i h = filled i h ∙ pose_alone plan numbers parameters current instances (joint_in plan joints i) state e
-
-  pub block_towards : {b : Blend} {there : StateAt} {factor : Float} (after : List Float) → b ≡ Towards there factor
-      → BlendedTowards joints factor block after (λ i. state_pose_at plan numbers parameters there instances (joint_in plan joints i))
-      → FilledFor plan joints after (λ j. shown_pose plan numbers parameters current instances j state b)
-  block_towards {b} {there} {factor} after e done i h =
-      done i h
-      ∙ ap (λ (p : Pose). lerp p (state_pose_at plan numbers parameters there instances (joint_in plan joints i)) factor) (filled i h)
-      ∙ pose_towards plan numbers parameters current instances (joint_in plan joints i) state e
-
 -- the other state is one of the plan's
 pub target_known : {plan : List ℕ} {numbers : List Float} {state : StateAt} {blend : Blend} {slots target_slots : List ℕ} {joints : Joints} {there : StateAt} {factor : Float}
-    → Ready plan numbers state blend slots target_slots → InBlock plan state.layout joints → blend ≡ Towards there factor
-    → SlottedState plan numbers there target_slots × InBlock plan there.layout joints
+    → Ready plan numbers state blend slots target_slots → InBlock state.layout joints → blend ≡ Towards there factor
+    → SlottedState plan numbers there target_slots × InBlock there.layout joints
 unfolding TargetReady
 target_known r i e =
     let t = rw e at r.target in
@@ -104,25 +95,8 @@ module _ {kind : FrameKind} {plan : List ℕ} {layout : Layout} {pose_of : ℕ �
 pub inside : {plan : List ℕ} {numbers : List Float} {layout : Layout} (first count : ℕ) → Playable plan numbers layout → Next layout first count → first + count ≤ joint_count plan
 inside {plan} first count ok n = omega (arith, joints_found plan ok.found)
 
--- a block's joints are the next ones, in a row
-abbrev row_of : ℕ → ℕ → Joints
-row_of first count = record { first = first; last = first + count - 1; count = count }
-
-pub row_block : {plan : List ℕ} {layout : Layout} (first count : ℕ) → Next layout first count → InBlock plan layout (row_of first count)
-row_block {plan} first count n =
-    record {
-      small = n.1;
-      some = n.0;
-      ends = omega (arith, n.0, n.2);
-      inside = λ i h. rw (row_lane plan (row_of first count) (omega (arith, n.0)) i) (omega (arith, n.2));
-    }
-
-pub row_filled : (plan : List ℕ) (f : ℕ → Pose) (block : List Float) (first count : ℕ) → 0 < count → FilledFor plan (row_of first count) block f
-    → Filled (λ i. f (first + i)) count block
-row_filled plan f block first count some filled i h = filled i h ∙ ap f (row_lane plan (row_of first count) (omega (arith, some)) i)
-
 -- with these `search` closes the needs of a loop that keeps `Through`
-pub ruleset through = (rules, passes, inside, row_block, through_none, through_next, through_all, through_room)
+pub ruleset through = (rules, passes, inside, through_none, through_next, through_all, through_room)
 
 -- ---- the transition
 
@@ -136,24 +110,24 @@ module _ {plan : List ℕ} {numbers : List Float} {state : StateAt} {target : �
       → TargetSynchronized plan numbers state target factor parameters target_slots before after r → Ready plan numbers state r slots target_slots
   ready_towards s t = rw t.blend (record { playable = s.0; inside = s.1; filled = s.2; target = t.ready })
 
-  pub blended_to : (shows : (ℕ → Pose) → Type 0) → TargetSynchronized plan numbers state target factor parameters target_slots before after r
-      → shows (λ j. shown_pose plan numbers parameters before after j state r)
-      → Blended shows plan numbers state.time factor state.here.state target parameters before after
+  pub blended_to : {kind : FrameKind} {old new : List Float} → TargetSynchronized plan numbers state target factor parameters target_slots before after r
+      → new ≡ skeleton_of kind plan (λ j. shown_pose plan numbers parameters before after j state r) old
+      → Blended kind plan numbers state.time factor state.here.state target parameters before after old new
   unfolding shown_pose
-  blended_to shows t e = record { instances = t.instances; output = rw (t.blend, t.number, t.time) at e }
+  blended_to t e = record { instances = t.instances; output = rw (t.blend, t.number, t.time) at e }
 
-module _ (shows : (ℕ → Pose) → Type 0) (plan : List ℕ) (numbers : List Float) (time instant : Float) (state : ℕ) (parameters before : List Float) where
-  pub shown_idle : (t : Transition) (after : List Float) → t ≡ Idle → StateShown shows plan numbers time state parameters before after
-      → Shown shows plan numbers time instant state t parameters before after
+module _ (kind : FrameKind) (plan : List ℕ) (numbers : List Float) (time instant : Float) (state : ℕ) (parameters before old : List Float) where
+  pub shown_idle : (t : Transition) (after new : List Float) → t ≡ Idle → StateShown kind plan numbers time state parameters before after old new
+      → Shown kind plan numbers time instant state t parameters before after old new
   unfolding current_instances instances_in current_pose pose_in
-  shown_idle t after e s =
+  shown_idle t after new e s =
       record { instances = λ p a b c. rw (e, a, b, c) s.instances; output = λ p a b c. rw (e, a, b, c, ← s.instances) s.output }
 
-  pub shown_running : (t : Transition) (start duration factor : Float) (target : ℕ) (current after : List Float)
+  pub shown_running : (t : Transition) (start duration factor : Float) (target : ℕ) (current after new : List Float)
       → t ≡ Running start target duration → factor ≡ transition_factor instant start duration
       → current ≡ synchronize plan numbers parameters time state before
-      → Blended shows plan numbers time factor state target parameters current after
-      → Shown shows plan numbers time instant state t parameters before after
+      → Blended kind plan numbers time factor state target parameters current after old new
+      → Shown kind plan numbers time instant state t parameters before after old new
   unfolding current_instances target_instances instances_in current_pose target_pose pose_in
-  shown_running t start duration factor target current after e f g b =
+  shown_running t start duration factor target current after new e f g b =
       record { instances = λ p x y z. rw (e, x, y, z, ← g) b.instances; output = λ p x y z. rw (e, x, y, z, ← g, ← b.instances, ← f) b.output }

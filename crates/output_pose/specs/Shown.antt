@@ -11,10 +11,8 @@ use Rattle.model.specs.Controller.{instances_in, pose_in}
 use Rattle.model.specs.Skeleton.{joint_matrices, written}
 use Rattle.layout.specs.declared.Layout.{Layout}
 use Rattle.layout.specs.Layout.{InPlan}
-use Rattle.lanes.specs.Lanes.{lane_at}
-use Rattle.blend_tree.specs.declared.Joints.{Joints}
 use Rattle.blend_tree.specs.declared.StateAt.{StateAt}
-use Rattle.blend_tree.specs.Blocks.{Filled, Playable, Slots, state_pose_at}
+use Rattle.blend_tree.specs.Blocks.{Playable, Slots, state_pose_at}
 use Rattle.output_pose.specs.declared.Blend.{Blend}
 use Rattle.output_pose.specs.declared.Blend.TheVariants.{Alone, Towards}
 
@@ -41,24 +39,16 @@ pub record Ready (plan : List ℕ) (numbers : List Float) (state : StateAt) (ble
   pub filled : Slots plan state.here.state slots
   pub target : TargetReady plan state.layout target_slots blend
 
--- each lane of `old` is blended towards the pose that f gives for it
-abbrev pub BlendedTowards : Joints → Float → List Float → List Float → (ℕ → Pose) → Type 0
-BlendedTowards joints factor old new f = Filled (λ i. lerp (lane_at old i) (f i) factor) joints.count new
-
--- ---- what is shown, of the joints' poses: whatever `shows` says of them, be it of an output or of one matrix
-
--- the output shows them
-abbrev pub Written : FrameKind → List ℕ → List Float → List Float → (ℕ → Pose) → Type 0
-Written kind plan old new pose_of = new ≡ skeleton_of kind plan pose_of old
+-- ---- what is shown
 
 -- the output shows a state that reads no parameter
 pub record JointShown (kind : FrameKind) (plan : List ℕ) (numbers : List Float) (time : Float) (state : ℕ) (instances old new : List Float) : Type 0 where
   pub output : (parameters : List Float) → new ≡ skeleton_of kind plan (state_pose plan numbers parameters time state instances) old
 
--- a state by itself is synchronised, and shown
-pub record StateShown (shows : (ℕ → Pose) → Type 0) (plan : List ℕ) (numbers : List Float) (time : Float) (state : ℕ) (parameters before after : List Float) : Type 0 where
+-- a state by itself is synchronised, and the output shows it
+pub record StateShown (kind : FrameKind) (plan : List ℕ) (numbers : List Float) (time : Float) (state : ℕ) (parameters before after old new : List Float) : Type 0 where
   pub instances : after ≡ synchronize plan numbers parameters time state before
-  pub output : shows (state_pose plan numbers parameters time state after)
+  pub output : new ≡ skeleton_of kind plan (state_pose plan numbers parameters time state after) old
 
 -- a target is synchronised on top of `before`, and r blends the state towards it by a factor
 pub record TargetSynchronized (plan : List ℕ) (numbers : List Float) (state : StateAt) (target : ℕ) (factor : Float) (parameters : List Float) (slots : List ℕ) (before after : List Float) (r : Blend) : Type 0 where
@@ -69,13 +59,13 @@ pub record TargetSynchronized (plan : List ℕ) (numbers : List Float) (state : 
   pub time : there.time ≡ state.time
   pub instances : after ≡ synchronize plan numbers parameters state.time target before
 
--- a state on its way to another by a factor: the other is synchronised on top of `before`, and both are shown, blended
-pub record Blended (shows : (ℕ → Pose) → Type 0) (plan : List ℕ) (numbers : List Float) (time factor : Float) (state target : ℕ) (parameters before after : List Float) : Type 0 where
+-- a state on its way to another by a factor: the other is synchronised on top of `before`, and the output shows both, blended
+pub record Blended (kind : FrameKind) (plan : List ℕ) (numbers : List Float) (time factor : Float) (state target : ℕ) (parameters before after old new : List Float) : Type 0 where
   pub instances : after ≡ synchronize plan numbers parameters time target before
-  pub output : shows (λ j. lerp (state_pose plan numbers parameters time state before j) (state_pose plan numbers parameters time target after j) factor)
+  pub output : new ≡ skeleton_of kind plan (λ j. lerp (state_pose plan numbers parameters time state before j) (state_pose plan numbers parameters time target after j) factor) old
 
--- for every player with these parts: its instances are synchronised, and its poses are shown
-pub record Shown (shows : (ℕ → Pose) → Type 0) (plan : List ℕ) (numbers : List Float) (time instant : Float) (state : ℕ) (transition : Transition) (parameters before after : List Float) : Type 0 where
+-- for every player with these parts: its instances are synchronised, and the output shows its poses
+pub record Shown (kind : FrameKind) (plan : List ℕ) (numbers : List Float) (time instant : Float) (state : ℕ) (transition : Transition) (parameters before after old new : List Float) : Type 0 where
   pub instances : (p : Player) → p.state ≡ state → p.parameters ≡ parameters → p.instances ≡ before → after ≡ instances_in plan numbers time p transition
   pub output : (p : Player) → p.state ≡ state → p.parameters ≡ parameters → p.instances ≡ before
-      → shows (λ j. pose_in plan numbers time p instant j transition)
+      → new ≡ skeleton_of kind plan (λ j. pose_in plan numbers time p instant j transition) old

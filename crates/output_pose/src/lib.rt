@@ -5,10 +5,9 @@ ghost use Rattle.model.specs.Plan.{clip_count, state_count};
 ghost use Rattle.model.specs.Clips.{local_time, clip_pose};
 ghost use Rattle.model.specs.Controller.{is_target_below, transition_factor};
 ghost use Rattle.lanes.specs.Lanes.{block_size};
-ghost use Rattle.blend_tree.specs.Blocks.{joint_in, FilledFor, Playable, InBlock, PlayableState, SlottedState};
-ghost use Rattle.blend_tree.specs.Blocks.{state_pose_at};
+ghost use Rattle.blend_tree.specs.Blocks.{FilledFor, Playable, InBlock, PlayableState, SlottedState};
 ghost use Rattle.skeleton.specs.Buffer.{HasRoom};
-ghost use Rattle.output_pose.specs.Shown.{skeleton_of, shown_pose, Ready, BlendedTowards, Written};
+ghost use Rattle.output_pose.specs.Shown.{skeleton_of, shown_pose, Ready};
 ghost use Rattle.output_pose.specs.Shown.{JointShown, TargetSynchronized, Blended, Shown};
 
 use animation::instance_at;
@@ -33,24 +32,32 @@ pub enum Blend {
 
 // ---- evaluating
 
-// Poses of a state, blended towards another state's of the same joints.
-pub fn blend_towards(
+// The poses of a row of joints. Each state has its own slots and instances: `current` are those of the first.
+pub fn shown_poses(
     plan: &[u16],
     numbers: &[f32],
-    there: StateAt,
-    factor: f32,
+    state: StateAt,
+    blend: Blend,
     parameters: &[f32; MAX_PARAMETERS],
+    slots: &[u8; SLOTS],
     there_slots: &[u8; SLOTS],
+    current: &[f32; MAX_INSTANCES],
     instances: &[f32; MAX_INSTANCES],
     joints: Joints,
     block: &mut [f32; BLOCK_FLOATS],
 )
-    requires { SlottedState plan.now numbers.now there there_slots.now
-        × InBlock plan.now there.layout joints }
-    ensures { BlendedTowards joints factor block.old block.new
-        (λ i. state_pose_at plan.now numbers.now parameters.now
-        there instances.now (joint_in plan.now joints i)) }
+    requires { Ready plan.now numbers.now state blend slots.now there_slots.now
+        × InBlock state.layout joints }
+    ensures { FilledFor joints block.new
+        (λ j. shown_pose plan.now numbers.now parameters.now
+        current.now instances.now j state blend) }
 {
+    state_poses(
+        plan, numbers, state, parameters, slots, current, joints, block,
+    );
+    let Blend::Towards { there, factor } = blend else {
+        return;
+    };
     let mut other = [0.0f32; BLOCK_FLOATS];
     state_poses(
         plan,
@@ -65,47 +72,8 @@ pub fn blend_towards(
     combine_all(true, block, &other, factor, joints.count);
 }
 
-// The poses of some joints. Each state has its own slots and instances: `current` are those of the first.
-fn shown_poses(
-    plan: &[u16],
-    numbers: &[f32],
-    state: StateAt,
-    blend: Blend,
-    parameters: &[f32; MAX_PARAMETERS],
-    slots: &[u8; SLOTS],
-    there_slots: &[u8; SLOTS],
-    current: &[f32; MAX_INSTANCES],
-    instances: &[f32; MAX_INSTANCES],
-    joints: Joints,
-    block: &mut [f32; BLOCK_FLOATS],
-)
-    requires { Ready plan.now numbers.now state blend slots.now there_slots.now
-        × InBlock plan.now state.layout joints }
-    ensures { FilledFor plan.now joints block.new
-        (λ j. shown_pose plan.now numbers.now parameters.now
-        current.now instances.now j state blend) }
-{
-    state_poses(
-        plan, numbers, state, parameters, slots, current, joints, block,
-    );
-    let Blend::Towards { there, factor } = blend else {
-        return;
-    };
-    blend_towards(
-        plan,
-        numbers,
-        there,
-        factor,
-        parameters,
-        there_slots,
-        instances,
-        joints,
-        block,
-    );
-}
-
-// How many of so many joints from `first` on make up the next block.
-pub fn block_length(joints: usize, first: usize) -> usize
+// How many of the joints from `first` on make up the next block.
+fn block_length(joints: usize, first: usize) -> usize
     requires { first < joints }
     ensures { (0 < result) × (result ≤ block_size) × (first + result ≤ joints) }
 {
@@ -152,11 +120,7 @@ fn show_blocks(
             there_slots,
             current,
             instances,
-            Joints {
-                first,
-                last: first + count - 1,
-                count,
-            },
+            Joints { first, count },
             &mut block,
         );
         calculate_global_poses(kind, plan, &block, first, count, output);
@@ -211,7 +175,7 @@ pub fn show_joint(
 
 // ---- synchronising
 
-pub fn transition_factor(instant: f64, start: f64, duration: f32) -> f32
+fn transition_factor(instant: f64, start: f64, duration: f32) -> f32
     ensures { result ≡ transition_factor instant start duration }
 {
     narrow((instant - start) / widen(duration))
@@ -258,9 +222,9 @@ fn show_transition(
     requires { SlottedState plan.now numbers.now state slots.now
         × (target < state_count plan.now)
         × HasRoom plan.now output.old }
-    ensures { Blended (Written kind plan.now output.old output.new)
-        plan.now numbers.now state.time factor state.here.state target
-        parameters.now instances.old instances.new }
+    ensures { Blended kind plan.now numbers.now state.time factor state.here.state target
+        parameters.now instances.old instances.new
+        output.old output.new }
 {
     let current = *instances;
     let mut there_slots = [0u8; SLOTS];
@@ -304,9 +268,9 @@ pub fn show(
     requires { PlayableState plan.now numbers.now state
         × (is_target_below (state_count plan.now) transition ≡ true)
         × HasRoom plan.now output.old }
-    ensures { Shown (Written kind plan.now output.old output.new)
-        plan.now numbers.now state.time instant state.here.state transition
-        parameters.now instances.old instances.new }
+    ensures { Shown kind plan.now numbers.now state.time instant state.here.state transition
+        parameters.now instances.old instances.new
+        output.old output.new }
 {
     let mut slots = [0u8; SLOTS];
     synchronize_state(plan, numbers, state, parameters, &mut slots, instances);

@@ -7,8 +7,8 @@ ghost use Rattle.std.specs.Float.Ieee.{to_bits};
 ghost use Rattle.model.specs.Text.{comma};
 ghost use Rattle.model.specs.Plan.{max_joints, output_at};
 ghost use Rattle.model.specs.Program.{glyph, digits, places, decimal_fields, refused_line, joint_line, number_bytes};
-ghost use Rattle.printing.specs.Written.{Written, WrittenUpTo, WrittenExactly, float_fields, joint_lines};
-ghost use Rattle.printing.specs.Sizes.{max_digits, matrix_floats, decimal_size, refusal_size, joint_size};
+ghost use Rattle.printing.specs.Written.{Written, WrittenUpTo, WrittenExactly, float_fields, matrix_in, joint_lines};
+ghost use Rattle.printing.specs.Sizes.{max_digits, decimal_size, refusal_size, joint_size};
 
 use float::f32_to_bits;
 use model::Refusal;
@@ -134,21 +134,23 @@ pub fn put_refusal(out: &mut [u8], at: usize, refusal: Refusal) -> usize
     behind_place + 1
 }
 
-// Joint j's line, for its matrix.
-pub fn put_joint(out: &mut [u8], at: usize, j: usize, matrix: &[f32]) -> usize
+// Joint j's line, for its matrix in an output.
+fn put_joint(out: &mut [u8], at: usize, j: usize, output: &[f32]) -> usize
     requires { (j < max_joints)
         × (at + joint_size ≤ length out.old)
-        × (length matrix.now ≡ matrix_floats) }
-    ensures { WrittenUpTo joint_size out.old at (joint_line j matrix.now) out.new result }
+        × (output_at (j + 1) ≤ length output.now) }
+    ensures { WrittenUpTo joint_size out.old at (joint_line j (matrix_in output.now j)) out.new result }
 {
     let behind_name = put_bytes(out, at, b"joint");
     let behind_index = put_decimal(out, behind_name, j);
-    let behind_floats = put_floats(out, behind_index, matrix);
+    let from = MATRIX_FLOATS * j;
+    let end = from + MATRIX_FLOATS;
+    let behind_floats = put_floats(out, behind_index, &output[from..end]);
     out[behind_floats] = b'\n';
     behind_floats + 1
 }
 
-// The lines of the first `count` joints, for their matrices in an output.
+// The lines of the first `count` joints.
 pub fn put_joints(out: &mut [u8], at: usize, count: usize, output: &[f32]) -> usize
     requires { (count ≤ max_joints)
         × (at + joint_size * count ≤ length out.old)
@@ -159,9 +161,7 @@ pub fn put_joints(out: &mut [u8], at: usize, count: usize, output: &[f32]) -> us
     let mut behind = at;
     let mut j = 0;
     while j < count {
-        let from = MATRIX_FLOATS * j;
-        let end = from + MATRIX_FLOATS;
-        behind = put_joint(out, behind, j, &output[from..end]);
+        behind = put_joint(out, behind, j, output);
         j += 1;
     }
     behind

@@ -1,11 +1,11 @@
--- One call: what a frame or a close-up leaves to be shown, and what is put for a call. Assumes nothing.
+-- One call: what a frame leaves to be shown, and what is put for a call. Assumes nothing.
 use Prim.Native.Nat.{ℕ, ◌≤◌}
 use native.Mathlib.Omega.{arith}
 use mathlib.Core.Path.{◌≡◌, refl, sym, ap, ◌∙◌}
 use mathlib.Core.Logic.{◌⊎◌, inl, inr}
 use mathlib.Core.List.{List, [], ◌∷◌, ◌++◌, map, append-nil, append_assoc}
 use lib.Dec.{leb}
-use lib.ListN.{length, get_or, take, drop}
+use lib.ListN.{length, get_or, drop}
 use lib.Ieee.{Float}
 use borrow.Author.Tests.{le-leb}
 use Rattle.model.specs.declared.FrameKind.{FrameKind}
@@ -15,7 +15,6 @@ use Rattle.model.specs.declared.Outcome.{Outcome}
 use Rattle.model.specs.declared.Answer.{Answer}
 use Rattle.model.specs.declared.Answer.TheVariants.{Accepted, Refused}
 use Rattle.model.specs.declared.LoopCount.{LoopCount}
-use Rattle.model.specs.declared.CloseUp.{CloseUp}
 use Rattle.model.specs.declared.Matrix4.{Matrix4}
 use Rattle.model.specs.Rotations.{identity_matrix, floats}
 use Rattle.model.specs.Answers.{Verdict, accepted, refused, values, ◌then◌, require, unless_refused}
@@ -24,16 +23,12 @@ use Rattle.model.specs.Check.{check}
 use Rattle.model.specs.Controller.{frame_verdict}
 use Rattle.model.specs.Skeleton.{flat, written}
 use Rattle.model.specs.Program.{joint_line, joined}
-use Rattle.model.specs.CloseUp.{close_up_verdict}
-use Rattle.model.specs.Run.{frame_matrices, close_up_matrix, Call, Frame, Joint, Loops, call_verdict, changed, after}
-use Rattle.model.specs.Run.{shown_among, chosen_floats, told, observation}
-use Rattle.model.specs.Promises.{Started, Framed, CloseUpShown, LoopsCounted}
+use Rattle.model.specs.Run.{frame_matrices, Call, Frame, Loops, call_verdict, changed, after, chosen_floats, told, observation}
+use Rattle.model.specs.Promises.{Started, Framed, LoopsCounted}
 use Rattle.model.specs.Laws.Answers.{then_left, unless_same}
 use Rattle.model.specs.Laws.Output.{matrix_at_lem, frame_length}
 use Rattle.model.specs.Laws.Passed.{few_joints}
-use Rattle.model.specs.Laws.CloseUp.{close_up_passed, joint_below}
 use Rattle.printing.specs.Written.{Written, joint_lines}
-use Rattle.printing.specs.Sizes.{matrix_floats}
 use Rattle.printing.proofs.Laws.{more_written, front_written, joined_same}
 use Rattle.calls.specs.declared.Call as Read
 use Rattle.calls.specs.declared.Call.TheVariants as read
@@ -42,12 +37,10 @@ use Rattle.calls.specs.Read.{line_of}
 use Rattle.report.specs.declared.Told.{Told}
 use Rattle.report.specs.declared.Told.TheVariants.{Nothing}
 use Rattle.report.specs.Report.{below, matrix_lines, answer_line, player_text, observation_text, told_text, told_values}
-use Rattle.report.proofs.Laws.{no_matrix_lines, one_matrix_line, matrix_lines_below, one_among}
-use Rattle.replay_core.specs.declared.Shown.{Shown}
-use Rattle.replay_core.specs.declared.Shown.TheVariants.{First, One}
+use Rattle.report.proofs.Laws.{no_matrix_lines, matrix_lines_below}
 use Rattle.replay_core.specs.declared.CallDone.{CallDone}
 use Rattle.replay_core.specs.Replay.{told_if_accepted, call_report, start_text}
-use Rattle.replay_core.specs.Replaying.{NothingShown, shown_lines, shown_end, call_text, all_shown, Done}
+use Rattle.replay_core.specs.Replaying.{NothingShown, call_text, all_shown, Done}
 use Rattle.replay_core.specs.Replaying.{line_after, line_report, Called, Beginning}
 
 -- ---- room for a frame
@@ -82,34 +75,15 @@ module _ (plan : List ℕ) (numbers : List Float) (p : Player) (floats : List Fl
   pub nothing_done : (c : Call) {a : Answer} {q : Player} {t : Told} {d : CallDone}
       → values a ≡ call_verdict plan numbers p c → q ≡ after plan numbers p c → all_shown plan numbers p c ≡ []
       → told_values t ≡ told_if_accepted plan numbers p c → NothingShown a q t d → Done plan numbers p c floats d
-  unfolding shown_lines joined
+  unfolding joined
   nothing_done c answer player none told h =
       record {
         answer = ap values h.answer ∙ answer;
         player = h.player ∙ player;
-        few = rw h.shown (omega arith);
-        shown = rw (h.shown, none, no_matrix_lines);
+        few = omega arith;
+        shown = rw (h.joints, none, no_matrix_lines);
         told = ap told_values h.told ∙ told;
       }
-
-  -- a refused call shows nothing, and is told nothing
-  pub refused_done : (c : Call) {a : Answer} {q : Player} {d : CallDone} (refusal : Refusal)
-      → values a ≡ call_verdict plan numbers p c → q ≡ after plan numbers p c → a ≡ Refused refusal
-      → NothingShown a q Nothing d → Done plan numbers p c floats d
-  unfolding values unless_refused told_values
-  refused_done c refusal answer player e h =
-      let v = sym answer ∙ ap values e in
-      nothing_done c answer player (rw v) (rw v) h
-
-  -- an accepted call that shows matrices
-  pub shown_done : (c : Call) {q : Player} {s : Shown} → call_verdict plan numbers p c ≡ accepted
-      → q ≡ after plan numbers p c → shown_end s ≤ max_joints
-      → shown_lines s floats ≡ matrix_lines (chosen_floats plan numbers (below (joint_count plan)) p c)
-      → told plan numbers p c ≡ []
-      → Done plan numbers p c floats (record { answer = Accepted; player = q; shown = s; told = Nothing })
-  unfolding values unless_refused told_values
-  shown_done c v player few lines untold =
-      record { answer = sym v; player = player; few = few; shown = rw v lines; told = rw (v, untold) }
 
   -- a question leaves the player
   pub loops_done_lem : (s n : ℕ) (time : Float) {r : LoopCount} {t : Told} {d : CallDone}
@@ -124,7 +98,7 @@ module _ (plan : List ℕ) (numbers : List Float) (p : Player) (floats : List Fl
 -- a frame whose output was the front of the floats, and is answered as one of length n
 module _ (plan : List ℕ) (numbers : List Float) (p : Player) (kind : FrameKind) (ext : Float) (old new : List Float)
     (r : Outcome) (framed : Framed kind plan numbers p ext old new r) (n : ℕ)
-    (same : frame_verdict plan numbers p (length old) ≡ frame_verdict plan numbers p n)
+    (same : frame_verdict plan numbers p (length old) ≡ frame_verdict plan numbers p n) (d : CallDone)
   where
     frame_answer_lem : values r.answer ≡ call_verdict plan numbers p (Frame kind ext n)
     unfolding call_verdict
@@ -134,10 +108,13 @@ module _ (plan : List ℕ) (numbers : List Float) (p : Player) (kind : FrameKind
     unfolding call_verdict changed after
     frame_player_lem = rw (← same) framed.player
 
-    pub frame_refused : (refusal : Refusal) (floats : List Float) {d : CallDone} → r.answer ≡ Refused refusal
-        → NothingShown r.answer r.player Nothing d → Done plan numbers p (Frame kind ext n) floats d
-    frame_refused refusal floats =
-        refused_done plan numbers p floats (Frame kind ext n) refusal frame_answer_lem frame_player_lem
+    pub frame_refused : (refusal : Refusal) (floats : List Float) → r.answer ≡ Refused refusal
+        → NothingShown r.answer r.player Nothing d
+        → Done plan numbers p (Frame kind ext n) floats d
+    unfolding values unless_refused told told_values
+    frame_refused refusal floats e h =
+        let v = sym frame_answer_lem ∙ ap values e in
+        nothing_done plan numbers p floats (Frame kind ext n) frame_answer_lem frame_player_lem (rw v) (rw v) h
 
     module _ (rest : List Float) (e : r.answer ≡ Accepted) where
       frame_accepted : frame_verdict plan numbers p (length old) ≡ accepted
@@ -152,60 +129,27 @@ module _ (plan : List ℕ) (numbers : List Float) (p : Player) (kind : FrameKind
       matrices = frame_matrices plan numbers p ext kind
 
       lines : joint_lines (joint_count plan) (new ++ rest)
-          ≡ matrix_lines (map (λ j. (j, floats (get_or matrices j identity_matrix))) (below (joint_count plan)))
+          ≡ matrix_lines (map (λ j. floats (get_or matrices j identity_matrix)) (below (joint_count plan)))
       unfolding unless_refused written
       lines =
           let o : new ≡ flat matrices ++ drop (output_at (joint_count plan)) old =
           rw frame_accepted at framed.output
           in
           let long = frame_length plan numbers p ext kind in
-          rw (matrix_lines_below (joint_count plan) (λ j. floats (get_or matrices j identity_matrix)), o, append_assoc)
+          rw (matrix_lines_below, o, append_assoc)
           (joined_same (joint_count plan) _ _ (λ j h. ap (joint_line j) (matrix_at_lem matrices _ j (omega arith))))
 
-      pub frame_done_lem : {count : ℕ} → count ≡ word plan joint_count_at
-          → Done plan numbers p (Frame kind ext n) (new ++ rest)
-          (record { answer = Accepted; player = r.player; shown = First count; told = Nothing })
-      unfolding call_verdict chosen_floats joint_count told shown_lines
-      frame_done_lem is =
-          shown_done plan numbers p (new ++ rest) (Frame kind ext n) (sym same ∙ frame_accepted) frame_player_lem
-          (omega (arith, few_shown)) (rw is lines) refl
-
--- a close-up whose floats are put into the front of the floats
-module _ (plan : List ℕ) (numbers : List Float) (p : Player) (ext : Float) (j : ℕ) (r : CloseUp)
-    (close : CloseUpShown plan numbers p ext j r) (all : List Float)
-  where
-    joint_answer : values r.answer ≡ call_verdict plan numbers p (Joint ext j)
-    unfolding call_verdict
-    joint_answer = close.answer
-
-    joint_player : r.player ≡ after plan numbers p (Joint ext j)
-    unfolding call_verdict changed after
-    joint_player = close.player
-
-    pub joint_refused : (refusal : Refusal) {d : CallDone} → r.answer ≡ Refused refusal
-        → NothingShown r.answer r.player Nothing d → Done plan numbers p (Joint ext j) all d
-    joint_refused refusal = refused_done plan numbers p all (Joint ext j) refusal joint_answer joint_player
-
-    module _ (e : r.answer ≡ Accepted) (front : take matrix_floats all ≡ r.matrix) where
-      joint_accepted : close_up_verdict plan numbers p j ≡ accepted
-      unfolding values
-      joint_accepted = sym close.answer ∙ ap values e
-
-      joint_line_lem : let among = shown_among (below (joint_count plan)) j in
-          joint_line j (take matrix_floats all) ≡ matrix_lines (map (λ k. (k, floats (close_up_matrix plan numbers p ext k))) among)
-      unfolding unless_refused
-      joint_line_lem =
-          let matrix : r.matrix ≡ floats (close_up_matrix plan numbers p ext j) = rw joint_accepted at close.matrix in
-          let one = one_among (joint_count plan) j (joint_below plan numbers p j joint_accepted) in
-          rw (front, matrix, one) (sym (one_matrix_line j _))
-
-      pub joint_done_lem : Done plan numbers p (Joint ext j) all
-          (record { answer = Accepted; player = r.player; shown = One j; told = Nothing })
-      unfolding call_verdict chosen_floats told shown_lines
-      joint_done_lem =
-          let few = few_joints plan (length numbers) (close_up_passed plan numbers p j joint_accepted) in
-          shown_done plan numbers p all (Joint ext j) joint_accepted joint_player
-          (omega (arith, joint_below plan numbers p j joint_accepted)) joint_line_lem refl
+      pub frame_done_lem : d.answer ≡ r.answer → d.player ≡ r.player → d.joints ≡ word plan joint_count_at
+          → d.told ≡ Nothing → Done plan numbers p (Frame kind ext n) (new ++ rest) d
+      unfolding call_verdict chosen_floats unless_refused joint_count told told_values
+      frame_done_lem a q count t =
+          record {
+            answer = ap values a ∙ frame_answer_lem;
+            player = q ∙ frame_player_lem;
+            few = omega (arith, few_shown);
+            shown = rw (← same, frame_accepted, count) lines;
+            told = rw (← same, frame_accepted, t);
+          }
 
 -- ---- the call of a line
 
@@ -227,12 +171,12 @@ module _ (plan : List ℕ) (numbers : List Float) (p : Player) (floats : List Fl
         }
 
     pub malformed_called : call ≡ read.Malformed → NothingShown Accepted p Nothing d → Called plan numbers p call floats d
-    unfolding line_of line_after line_report call_text observation_text observation values unless_refused shown_lines joined told_text told_values
+    unfolding line_of line_after line_report call_text observation_text observation values unless_refused joined told_text told_values
     malformed_called e h =
         record {
-          few = rw h.shown (omega arith);
+          few = omega arith;
           player = λ rest. rw e h.player;
-          text = λ rest. rw (e, h.answer, h.player, h.shown, h.told, no_matrix_lines) (append-nil _);
+          text = λ rest. rw (e, h.answer, h.player, h.joints, h.told, no_matrix_lines) (append-nil _);
         }
 
 -- ---- the start

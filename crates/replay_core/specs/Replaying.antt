@@ -4,18 +4,15 @@ use Rattle.model.specs.declared.Answer.{Answer}
 use Rattle.model.specs.declared.Player.{Player}
 use Rattle.model.specs.Answers.{accepted, values, unless_refused}
 use Rattle.model.specs.Plan.{max_joints, joint_count}
-use Rattle.model.specs.Program.{joint_line}
 use Rattle.model.specs.Run.{Call, call_verdict, after, chosen_floats, observation, start_player}
 use Rattle.printing.specs.Written.{Front, joint_lines}
-use Rattle.printing.specs.Sizes.{matrix_floats, refusal_size, max_printed}
+use Rattle.printing.specs.Sizes.{refusal_size, max_printed}
 use Rattle.calls.specs.declared.Call as Read
 use Rattle.calls.specs.CallText.{CallLine, malformed, line, call_in}
 use Rattle.calls.specs.Read.{line_of, call_at}
 use Rattle.report.specs.declared.Told.{Told}
 use Rattle.report.specs.Report.{below, matrix_lines, answer_line, player_text, observation_text, told_text, told_values}
 use Rattle.report.specs.Sizes.{player_size, told_size}
-use Rattle.replay_core.specs.declared.Shown.{Shown}
-use Rattle.replay_core.specs.declared.Shown.TheVariants.{First, One}
 use Rattle.replay_core.specs.declared.CallDone.{CallDone}
 use Rattle.replay_core.specs.declared.Begun.{Begun}
 use Rattle.replay_core.specs.declared.Progress.{Progress}
@@ -31,35 +28,26 @@ max_report = refusal_size + player_size + max_printed + told_size
 pub record NothingShown (a : Answer) (p : Player) (t : Told) (r : CallDone) : Type 0 where
   pub answer : r.answer ≡ a
   pub player : r.player ≡ p
-  pub shown : r.shown ≡ First 0
+  pub joints : r.joints ≡ 0
   pub told : r.told ≡ t
-
--- the lines of the joints whose matrices the floats hold, and the number behind the last of these
-unfoldable pub shown_lines : Shown → List Float → List ℕ
-shown_lines (First count) floats = joint_lines count floats
-shown_lines (One j) floats = joint_line j (take matrix_floats floats)
-
-abbrev pub shown_end : Shown → ℕ
-shown_end (First count) = count
-shown_end (One j) = j + 1
 
 -- what is put for a call
 unfoldable pub call_text : CallDone → List Float → List ℕ
 call_text r floats =
-    answer_line (values r.answer) ++ player_text r.player ++ shown_lines r.shown floats ++
+    answer_line (values r.answer) ++ player_text r.player ++ joint_lines r.joints floats ++
     told_text (told_values r.told)
 
 module _ (plan : List ℕ) (numbers : List Float) (p : Player) where
   -- what every joint shows in a call; nothing where it is refused
-  abbrev pub all_shown : Call → List (ℕ × List Float)
+  abbrev pub all_shown : Call → List (List Float)
   all_shown c = unless_refused (call_verdict plan numbers p c) (chosen_floats plan numbers (below (joint_count plan)) p c) []
 
   -- its answer, its player, the floats that hold the matrices to be shown, and what it is told
   pub record Done (c : Call) (floats : List Float) (r : CallDone) : Type 0 where
     pub answer : values r.answer ≡ call_verdict plan numbers p c
     pub player : r.player ≡ after plan numbers p c
-    pub few : shown_end r.shown ≤ max_joints
-    pub shown : shown_lines r.shown floats ≡ matrix_lines (all_shown c)
+    pub few : r.joints ≤ max_joints
+    pub shown : joint_lines r.joints floats ≡ matrix_lines (all_shown c)
     pub told : told_values r.told ≡ told_if_accepted plan numbers p c
 
   -- a line's call: the player that it leaves, and what it shows. A malformed line changes nothing and is answered `ok`
@@ -73,7 +61,7 @@ module _ (plan : List ℕ) (numbers : List Float) (p : Player) where
 
   -- the call of a line that was read, whatever stands behind the line
   pub record Called (call : Read.Call) (floats : List Float) (r : CallDone) : Type 0 where
-    pub few : shown_end r.shown ≤ max_joints
+    pub few : r.joints ≤ max_joints
     pub player : (rest : List ℕ) → r.player ≡ line_after (line_of call rest)
     pub text : (rest : List ℕ) → call_text r floats ≡ line_report (line_of call rest)
 

@@ -1,28 +1,26 @@
 // A list of calls performed on a figure, with what each call shows put into a slice of bytes. A long list shows more
 // than any buffer holds, so `perform` stops where there is no room for another report and says how far it came; its
 // caller prints, and goes on from there.
-ghost use Rattle.std.specs.Prelude.{◌≡◌, List, [], ◌∷◌, ◌+◌, ◌≤◌, length, take, Float};
+ghost use Rattle.std.specs.Prelude.{◌≡◌, [], ◌∷◌, ◌+◌, ◌≤◌, length};
 ghost use Rattle.model.specs.declared.Answer.TheVariants as Answer;
 ghost use Rattle.model.specs.Answers.{values, unless_refused};
 ghost use Rattle.model.specs.Plan.{max_joints, max_output};
-ghost use Rattle.model.specs.Run.{Frame, Joint, Loops};
+ghost use Rattle.model.specs.Run.{Frame};
 ghost use Rattle.model.specs.Promises.{Framed};
 ghost use Rattle.printing.specs.Written.{WrittenUpTo, Front};
-ghost use Rattle.printing.specs.Sizes.{max_printed};
 ghost use Rattle.report.specs.declared.Told.TheVariants as Told;
 ghost use Rattle.report.specs.Report.{told_values, end_text};
 ghost use Rattle.replay_core.specs.Replay.{malformed_line};
-ghost use Rattle.replay_core.specs.Replaying.{max_report, NothingShown, shown_end, shown_lines, call_text, Done};
-ghost use Rattle.replay_core.specs.Replaying.{Called, Beginning, performed, Performing};
+ghost use Rattle.replay_core.specs.Replaying.{max_report, NothingShown, call_text, Done, Called};
+ghost use Rattle.replay_core.specs.Replaying.{Beginning, performed, Performing};
 
 use calls::{Call, call_at};
-use close_up::close_up;
 use controller::{frame, page_frame, set, speed, start, update};
 use layout::{JOINT_COUNT_AT, word};
 use loops::loops;
-use model::limits::{MATRIX_FLOATS, MAX_OUTPUT};
+use model::limits::MAX_OUTPUT;
 use model::{Answer, FrameKind, LoopCount, Outcome, Player};
-use printing::{MAX_PRINTED, REFUSAL_SIZE, put_bytes, put_decimal, put_joint, put_joints};
+use printing::{MAX_PRINTED, REFUSAL_SIZE, put_bytes, put_decimal, put_joints};
 use report::{
     PLAYER_SIZE, TOLD_SIZE, Told, put_answer, put_instances, put_parameters, put_player, put_told,
 };
@@ -31,19 +29,12 @@ use report::{
 // and what a question is told.
 pub const MAX_REPORT: usize = REFUSAL_SIZE + PLAYER_SIZE + MAX_PRINTED + TOLD_SIZE;
 
-// Whose matrices a call left in the front of the floats: those of the first joints, or of one.
-#[derive(Drop)]
-pub enum Shown {
-    First { count: usize },
-    One { joint: usize },
-}
-
-// A call's outcome, the joints that it shows, and what it is told.
+// A call's outcome, how many joints' matrices it left in the floats, and what it is told.
 #[derive(Drop)]
 pub struct CallDone {
     pub answer: Answer,
     pub player: Player,
-    pub shown: Shown,
+    pub joints: usize,
     pub told: Told,
 }
 
@@ -75,7 +66,7 @@ fn done(outcome: Outcome, told: Told) -> CallDone
     CallDone {
         answer: answer,
         player: player,
-        shown: Shown::First { count: 0 },
+        joints: 0,
         told: told,
     }
 }
@@ -149,77 +140,9 @@ fn frame_done(
     CallDone {
         answer: Answer::Accepted,
         player: after,
-        shown: Shown::First {
-            count: word(plan, JOINT_COUNT_AT),
-        },
+        joints: word(plan, JOINT_COUNT_AT),
         told: Told::Nothing,
     }
-}
-
-fn put_matrix(floats: &mut [f32], matrix: &[f32])
-    requires { length matrix.now ≤ length floats.old }
-    ensures { take (length matrix.now) floats.new ≡ matrix.now }
-{
-    let mut i = 0;
-    while i < matrix.len() {
-        floats[i] = matrix[i];
-        i += 1;
-    }
-}
-
-fn joint_done(
-    plan: &[u16],
-    numbers: &[f32],
-    player: Player,
-    ext: f64,
-    joint: usize,
-    floats: &mut [f32],
-) -> CallDone
-    requires { length floats.old ≡ max_output }
-    ensures { Done plan.now numbers.now player (Joint ext joint) floats.new result
-        × (length floats.new ≡ max_output) }
-{
-    let close = close_up(plan, numbers, player, ext, joint);
-    let answer = close.answer;
-    let after = close.player;
-    let matrix = close.matrix;
-    let outcome = Outcome {
-        answer: answer,
-        player: after,
-    };
-    match answer {
-        Answer::Refused(_) => done(outcome, Told::Nothing),
-        Answer::Accepted => {
-            put_matrix(floats, &matrix);
-            CallDone {
-                answer: Answer::Accepted,
-                player: after,
-                shown: Shown::One { joint: joint },
-                told: Told::Nothing,
-            }
-        }
-    }
-}
-
-// A question leaves the player, and shows nothing.
-fn loops_done(
-    plan: &[u16],
-    numbers: &[f32],
-    player: Player,
-    state: usize,
-    node: usize,
-    time: f32,
-) -> CallDone
-    ensures { (floats : List Float)
-        → Done plan.now numbers.now player (Loops state node time) floats result }
-{
-    let count = loops(plan, numbers, player, state, node, time);
-    let answer = count.answer;
-    let outcome = Outcome {
-        answer: answer,
-        player: player,
-    };
-    done(outcome, told_of(count))
 }
 
 // A malformed line, which no list that passed has, changes nothing and is answered as accepted.
@@ -242,37 +165,31 @@ fn call_done(
         Call::Frame { kind, ext, length } => frame_done(
             plan, numbers, player, kind, ext, length, floats,
         ),
-        Call::Joint { ext, joint } => joint_done(plan, numbers, player, ext, joint, floats),
-        Call::Loops { state, node, time } => loops_done(plan, numbers, player, state, node, time),
-    }
-}
-
-fn put_shown(out: &mut [u8], at: usize, shown: Shown, floats: &[f32]) -> usize
-    requires { (at + max_printed ≤ length out.old)
-        × (shown_end shown ≤ max_joints)
-        × (length floats.now ≡ max_output) }
-    ensures { WrittenUpTo max_printed out.old at (shown_lines shown floats.now) out.new result }
-{
-    match shown {
-        Shown::First { count } => put_joints(out, at, count, floats),
-        Shown::One { joint } => put_joint(out, at, joint, &floats[..MATRIX_FLOATS]),
+        Call::Loops { state, node, time } => {
+            let count = loops(plan, numbers, player, state, node, time);
+            let answer = count.answer;
+            let outcome = Outcome {
+                answer: answer,
+                player: player,
+            };
+            done(outcome, told_of(count))
+        }
     }
 }
 
 // The answer, the player, the joints, and what the call is told.
 fn put_call(out: &mut [u8], at: usize, call: CallDone, floats: &[f32]) -> usize
     requires { (at + max_report ≤ length out.old)
-        × (shown_end call.shown ≤ max_joints)
+        × (call.joints ≤ max_joints)
         × (length floats.now ≡ max_output) }
     ensures { WrittenUpTo max_report out.old at (call_text call floats.now) out.new result }
 {
     let answer = call.answer;
     let player = call.player;
-    let shown = call.shown;
     let told = call.told;
     let behind_answer = put_answer(out, at, answer);
     let behind_player = put_player(out, behind_answer, player);
-    let behind_joints = put_shown(out, behind_player, shown, floats);
+    let behind_joints = put_joints(out, behind_player, call.joints, floats);
     put_told(out, behind_joints, told)
 }
 

@@ -1,5 +1,5 @@
 -- What a list of calls shows, as text: an answer, the player, the joints' matrices. Definitions only.
-use Rattle.std.specs.Prelude.{ℕ, List, [], ◌∷◌, ◌++◌, Float}
+use Rattle.std.specs.Prelude.{ℕ, List, [], ◌∷◌, ◌++◌, length, get_or, Float}
 use Rattle.std.specs.Float.{binary64}
 use Rattle.std.specs.Float.Ieee.{to_bits}
 use Rattle.model.specs.declared.Player.{Player}
@@ -43,9 +43,8 @@ abbrev pub player_text : Player → List ℕ
 player_text p = player_line p.clock p.speed p.state p.transition
 
 -- a line for each of some joints' matrices
-unfoldable pub matrix_lines : List (ℕ × List Float) → List ℕ
-matrix_lines [] = []
-matrix_lines ((j, matrix) ∷ ms) = joint_line j matrix ++ matrix_lines ms
+unfoldable pub matrix_lines : List (List Float) → List ℕ
+matrix_lines ms = joined (length ms) (λ j. joint_line j (get_or ms j []))
 
 -- 0, .., n - 1
 unfoldable pub below : ℕ → List ℕ

@@ -24,7 +24,7 @@ pub fn output_at(j: usize) -> usize
     MATRIX_FLOATS * j
 }
 
-pub fn identity_matrix() -> Matrix4
+fn identity_matrix() -> Matrix4
     ensures { result ≡ identity_matrix }
 {
     Matrix4 {

@@ -14,14 +14,14 @@ use Rattle.model.specs.declared.LineKind.TheVariants.{Clip, State, Node, Go}
 use Rattle.model.specs.Text.{max_word, front, forms, line_in, words_in, bits_in, Reading, bad, got, prefixed, and_then, times, read_line, from_state, read_state, read_end, read_words, samples_in}
 use Rattle.model.specs.Plan.{max_joints, max_clips, max_samples, clip_words, total}
 use Rattle.model.specs.Laws.Totals.{total_same}
-use Rattle.lines.specs.declared.LineEnd.{LineEnd}
+use Rattle.text.specs.declared.lines.LineEnd.{LineEnd}
 use Rattle.text.specs.declared.put.Progress.{Progress}
 use Rattle.text.specs.declared.put.Step.{Step}
 use Rattle.text.specs.declared.put.Step.TheVariants.{Next, Malformed}
 use Rattle.text.specs.Figures.{sampled, read_poses, read_motion}
-use Rattle.lines.specs.LineFound.{LineFound}
+use Rattle.text.specs.LineFound.{LineFound}
 use Rattle.text.specs.Steps.{InText, behind_line, with_word, LineAt, Put, ReadAs}
-use Rattle.lines.specs.contracts.LineEnd.{the_type as end-type}
+use Rattle.text.specs.contracts.lines.LineEnd.{the_type as end-type}
 use Rattle.text.specs.contracts.put.Step.{the_type as step-type}
 use Rattle.text.proofs.Laws.{put_more, put_word, put_behind, follows, goes, stops, moved_nothing}
 use Rattle.text.proofs.LineLaws.{next_of, line_bad, line_read, line_bytes, line_values}

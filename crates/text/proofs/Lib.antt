@@ -1,3 +1,4 @@
+pub mod FieldLaws
 pub mod Laws
 pub mod LineLaws
 pub mod FigureLaws

@@ -15,15 +15,15 @@ use Rattle.model.specs.declared.FieldForm.{FieldForm}
 use Rattle.model.specs.declared.FieldForm.TheVariants.{Decimal, Bits}
 use Rattle.model.specs.Text.{front, max_word, forms, field_count, form_of, Line, malformed, line, line_in, words_in, bits_in, bad, got, from_line, read_line, floats_of}
 use Rattle.model.specs.Laws.Text.{Bounded, LineLaw, line_law}
-use Rattle.lines.specs.declared.LineEnd.{LineEnd}
-use Rattle.lines.specs.declared.LineEnd.TheVariants as end
+use Rattle.text.specs.declared.lines.LineEnd.{LineEnd}
+use Rattle.text.specs.declared.lines.LineEnd.TheVariants as end
 use Rattle.text.specs.declared.put.Progress.{Progress}
 use Rattle.text.specs.declared.put.Step.{Step}
 use Rattle.text.specs.declared.put.Step.TheVariants.{Next, Malformed}
-use Rattle.lines.specs.LineFound.{max_fields, no_values, found_end, found_values, LineFound}
-use Rattle.lines.proofs.FieldLaws.{fields_few, line_rest}
+use Rattle.text.specs.LineFound.{max_fields, no_values, found_end, found_values, LineFound}
+use Rattle.text.proofs.FieldLaws.{fields_few, line_rest}
 use Rattle.text.specs.Steps.{InText, behind_line, with_word, with_number, Room, LineValues, LineAt, Put, Stays, ValuesPut, valued, ReadAs}
-use Rattle.lines.specs.contracts.LineEnd.{the_type as end-type}
+use Rattle.text.specs.contracts.lines.LineEnd.{the_type as end-type}
 use Rattle.text.proofs.Laws.{at_front, put_more, put_nothing, put_word, put_behind}
 
 -- ---- what `line_at` found

@@ -1,2 +1,4 @@
+pub mod LineFound
+pub mod LineReading
 pub mod Steps
 pub mod Figures

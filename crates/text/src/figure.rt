@@ -7,9 +7,9 @@ ghost use Rattle.model.specs.declared.LineKind.TheVariants as LineKind;
 ghost use Rattle.text.specs.Steps.{InText, ReadBy};
 ghost use Rattle.text.specs.Figures.{sampled, ended, read_poses, read_motion, begin, Judged};
 
+use crate::lines::{LineEnd, MAX_FIELDS, line_at};
 use crate::put::{Progress, Step, behind, put_word, read_line, read_lines};
 use layout::{CLIP_COUNT_AT, JOINT_COUNT_AT, STATE_COUNT_AT};
-use lines::{LineEnd, MAX_FIELDS, line_at};
 use model::{LineKind, Refusal, TextAnswer};
 
 // ---- states

@@ -4,12 +4,12 @@ ghost use Rattle.std.specs.Prelude.{◌≡◌, [], ◌∷◌, ◌+◌, ◌<◌, 
 ghost use Rattle.std.proofs.lemmas.List.Edits.{sets};
 ghost use Rattle.model.specs.Text.{max_word, forms, read_line, times, floats_of};
 ghost use Rattle.model.specs.Laws.Text.{Bounded};
-ghost use Rattle.lines.specs.LineFound.{max_fields};
+ghost use Rattle.text.specs.LineFound.{max_fields};
 ghost use Rattle.text.specs.Steps.{InText, with_word, with_number, behind_line, Room};
 ghost use Rattle.text.specs.Steps.{ValuesPut, LineValues, valued, ReadBy};
 
+use crate::lines::{LineEnd, MAX_FIELDS, field_count, field_form, line_at};
 use float::f32_from_bits;
-use lines::{LineEnd, MAX_FIELDS, field_count, field_form, line_at};
 use model::{FieldForm, LineKind};
 
 // The place in the text, and how many lines, words and numbers stand before it.

@@ -1,8 +1,7 @@
 //! The static library's functions, declared here once more from its description.
 
-use crate::close_up::CloseUp;
 use crate::evaluator::{
-    Answer, Evaluator, HostCloseUp, HostLoops, HostPlayer, HostUses, Question, Shown, TextAnswer,
+    Answer, Evaluator, HostLoops, HostPlayer, HostUses, Question, Shown, TextAnswer,
 };
 
 extern "C" {
@@ -36,15 +35,6 @@ extern "C" {
         output: *mut f32,
         output_length: usize,
     ) -> Answer;
-    fn gentianlathe_joint(
-        plan: *const u16,
-        plan_length: usize,
-        numbers: *const f32,
-        numbers_length: usize,
-        player: *mut HostPlayer,
-        ext: f64,
-        joint: usize,
-    ) -> HostCloseUp;
     fn gentianlathe_read_text(
         text: *const u8,
         text_length: usize,
@@ -120,26 +110,6 @@ impl Evaluator for Library {
                 ext,
                 output.as_mut_ptr(),
                 output.len(),
-            )
-        }
-    }
-
-    fn close_up(&self, asked: CloseUp, player: &mut HostPlayer) -> HostCloseUp {
-        let CloseUp {
-            plan,
-            numbers,
-            ext,
-            joint,
-        } = asked;
-        unsafe {
-            gentianlathe_joint(
-                plan.as_ptr(),
-                plan.len(),
-                numbers.as_ptr(),
-                numbers.len(),
-                player,
-                ext,
-                joint,
             )
         }
     }

@@ -1,12 +1,8 @@
 //! What is compared: the calls of the static library, and the player as a host holds it.
 
-use crate::close_up::CloseUp;
-use compare::judge::bits;
 use compare::model::loops::Played;
-use compare::model::rotation::Matrix;
 use compare::model::uses::Uses;
 use compare::player::{Player, Running, INSTANCES, PARAMETERS};
-use compare::row::joined;
 use compare::texts::figure::Refusal;
 use std::fmt;
 
@@ -67,15 +63,6 @@ pub struct HostLoops {
     pub rest: usize,
 }
 
-/// One joint's matrix by rows. Refused, its floats are all 0.
-#[repr(C)]
-#[derive(Clone, Copy)]
-pub struct HostCloseUp {
-    pub number: usize,
-    pub place: usize,
-    pub matrix: [f32; 16],
-}
-
 /// What is asked for: a state, a node of it, and a time.
 #[derive(Clone, Copy, Debug)]
 pub struct Question {
@@ -106,7 +93,6 @@ pub trait Evaluator {
         ext: f64,
         output: &mut [f32],
     ) -> Answer;
-    fn close_up(&self, asked: CloseUp, player: &mut HostPlayer) -> HostCloseUp;
     fn read_text(&self, text: &[u8], plan: &mut [u16], numbers: &mut [f32]) -> TextAnswer;
     fn uses(&self, plan: &[u16], numbers: &[f32]) -> HostUses;
     /// Only reads the player. It is lent to be written all the same, or else the compiler might take it
@@ -236,42 +222,6 @@ impl fmt::Debug for HostLoops {
     fn fmt(&self, f: &mut fmt::Formatter) -> fmt::Result {
         let HostLoops { loops, rest, .. } = self;
         write!(f, "{:?} with {loops} loops and rest {rest}", self.answer())
-    }
-}
-
-impl HostCloseUp {
-    pub fn of(shown: Result<Matrix, Refusal>) -> HostCloseUp {
-        let Answer { number, place } = Answer::of(shown.map(|_| ()));
-        let rows = shown.unwrap_or([[0.0; 4]; 4]);
-        let mut matrix = [0.0; 16];
-        matrix.copy_from_slice(rows.as_flattened());
-        HostCloseUp {
-            number,
-            place,
-            matrix,
-        }
-    }
-
-    pub fn answer(self) -> Answer {
-        let HostCloseUp { number, place, .. } = self;
-        Answer { number, place }
-    }
-
-    fn bits(self) -> [u32; 16] {
-        self.matrix.map(bits)
-    }
-}
-
-/// All NaNs are alike.
-impl PartialEq for HostCloseUp {
-    fn eq(&self, other: &HostCloseUp) -> bool {
-        self.answer() == other.answer() && self.bits() == other.bits()
-    }
-}
-
-impl fmt::Debug for HostCloseUp {
-    fn fmt(&self, f: &mut fmt::Formatter) -> fmt::Result {
-        write!(f, "{:?} with {}", self.answer(), joined(&self.bits()))
     }
 }
 

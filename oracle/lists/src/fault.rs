@@ -1,7 +1,5 @@
 //! The faults that are put in on the way, by name.
 
-use crate::close_up_fault::CloseUpFault;
-
 #[derive(Clone, Copy, Debug, PartialEq, Eq)]
 pub enum Fault {
     None,
@@ -137,7 +135,6 @@ pub enum Fault {
     LoopsTidiesPlayer,
     LoopsStartPlace,
     LoopsSixteenFirst,
-    CloseUp(CloseUpFault),
 }
 
 impl Fault {
@@ -297,7 +294,6 @@ impl Fault {
         let others = Fault::OTHERS.into_iter();
         let joints = others.chain(Fault::OF_JOINTS);
         let uses = joints.chain(Fault::OF_PAGES).chain(Fault::OF_USES);
-        let loops = uses.chain(Fault::OF_LOOPS).chain(Fault::OF_REFUSED_LOOPS);
-        loops.chain(CloseUpFault::all().map(Fault::CloseUp))
+        uses.chain(Fault::OF_LOOPS).chain(Fault::OF_REFUSED_LOOPS)
     }
 }

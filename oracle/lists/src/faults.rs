@@ -1,9 +1,8 @@
 //! The library with a fault put in on the way.
 
-use crate::close_up::CloseUp;
 use crate::endings::with_endings;
 use crate::evaluator::{
-    Answer, Evaluator, HostCloseUp, HostLoops, HostPlayer, HostUses, Question, Shown, TextAnswer,
+    Answer, Evaluator, HostLoops, HostPlayer, HostUses, Question, Shown, TextAnswer,
 };
 pub use crate::fault::Fault;
 use crate::frame::{checked, Frame};
@@ -166,13 +165,6 @@ impl Evaluator for Faulty<'_> {
             _ => {}
         }
         answer
-    }
-
-    fn close_up(&self, asked: CloseUp, player: &mut HostPlayer) -> HostCloseUp {
-        match self.fault {
-            Fault::CloseUp(fault) => fault.spoilt(self.library, asked, player),
-            _ => self.library.close_up(asked, player),
-        }
     }
 
     fn read_text(&self, text: &[u8], plan: &mut [u16], numbers: &mut [f32]) -> TextAnswer {

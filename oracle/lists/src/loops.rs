@@ -1,6 +1,5 @@
 //! What a question for loops is about, and what many of them have shown.
 
-use crate::counts::{first_missing, kinds_sentence};
 use crate::evaluator::Question;
 use compare::model::clip::{floor_index, position};
 use compare::model::figure::Checked;
@@ -8,6 +7,10 @@ use compare::model::loops::{clip_of, played, Played};
 use compare::model::tree::Tree;
 use compare::player::Player;
 use compare::texts::figure::Refusal;
+
+/// Of so many frames with questions among them each kind has to be there. With fewer it could be
+/// missing by chance.
+pub const ENOUGH: usize = 10_000;
 
 /// A clip node that is there.
 pub struct Asked<'a> {
@@ -114,11 +117,18 @@ impl LoopsCounts {
 
     /// A kind that never came, which shows nothing.
     pub fn missing(&self) -> Option<&'static str> {
-        first_missing(&self.kinds())
+        let kinds = self.kinds();
+        let missing = kinds.iter().find(|(_, count)| *count == 0)?;
+        Some(missing.0)
     }
 
     pub fn sentence(&self) -> String {
-        kinds_sentence("questions for loops", &self.kinds())
+        let kinds = self.kinds();
+        let kinds: Vec<String> = kinds
+            .iter()
+            .map(|(kind, count)| format!("{count} {kind}"))
+            .collect();
+        format!("questions for loops: {}", kinds.join(", "))
     }
 }
 

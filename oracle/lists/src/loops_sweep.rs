@@ -169,10 +169,9 @@ fn moving(draft: Draft) -> Case {
 mod tests {
     use super::*;
     use crate::abi::Library;
-    use crate::counts::Counts;
     use crate::faults::{Fault, Faulty};
     use crate::plans::same_start;
-    use crate::run::run;
+    use crate::run::{run, Counts};
     use crate::sweep::plans;
 
     fn faulty(fault: Fault) -> Faulty<'static> {

@@ -2,14 +2,6 @@
 //! call and bit for bit.
 
 mod abi;
-mod close_up;
-mod close_up_fault;
-mod close_up_faults;
-mod close_up_matrices;
-mod close_up_run;
-mod close_up_sweep;
-mod counts;
-mod difference;
 mod ending_faults;
 mod endings;
 mod evaluator;
@@ -19,7 +11,6 @@ mod frame;
 mod joint_faults;
 mod loops;
 mod loops_faults;
-mod loops_run;
 mod loops_sweep;
 mod output;
 mod page_faults;

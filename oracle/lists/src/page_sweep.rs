@@ -83,9 +83,8 @@ fn calls(joints: usize) -> [Call; 10] {
 mod tests {
     use super::*;
     use crate::abi::Library;
-    use crate::counts::Counts;
     use crate::faults::{Fault, Faulty};
-    use crate::run::run;
+    use crate::run::{run, Counts};
 
     fn finds(fault: Fault, cases: impl Iterator<Item = Case>) -> bool {
         let library = &Library;

@@ -1,16 +1,13 @@
 //! Plans of all sorts with number counts of all sorts, put to the start.
 
-use crate::close_up::CloseUp;
-use crate::counts::Counts;
-use crate::difference::{difference, same};
 use crate::endings::clip_words;
-use crate::evaluator::{Answer, Evaluator, HostCloseUp, HostLoops, HostPlayer, Question};
+use crate::evaluator::{Answer, Evaluator, HostLoops, HostPlayer, Question};
 use crate::parents::parent_words;
-use crate::run::floats;
+use crate::run::{difference, floats, same, Counts};
 use compare::generator::Generator;
 use compare::reference::Reference;
-use compare::texts::figure::{Figure, Refusal};
-use compare::texts::joints::{MOST_JOINTS, ROOT, RUST_ROOT};
+use compare::texts::figure::Figure;
+use compare::texts::joints::{ROOT, RUST_ROOT};
 use compare::texts::random_figure::{accepted, figure};
 
 /// At the limits of counts, and beside them.
@@ -123,7 +120,7 @@ const NOWHERE: Question = Question {
 };
 
 /// Whether the start answers the figure as the reference does, and stores the same player; where it is
-/// refused, a close-up and a question for loops have to be refused alike.
+/// refused, a question for loops has to be refused alike.
 pub fn same_start(
     figure: &Figure,
     evaluator: &dyn Evaluator,
@@ -137,7 +134,9 @@ pub fn same_start(
     same("the answer", &expected, &answer)?;
     if let Err(refusal) = reference.answer() {
         *counts.refused.entry(expected.number).or_default() += 1;
-        refused_alike(figure, refusal, evaluator, &mut player)?;
+        let asked = evaluator.loops(&figure.plan, &floats(figure), &mut player, NOWHERE);
+        let expected = HostLoops::of(Err(refusal));
+        same("a question for loops", &expected, &asked)?;
     }
     let (expected, actual) = (reference.player().seen(), player.player().seen());
     if expected != actual || !player.is_tidy() {
@@ -146,28 +145,6 @@ pub fn same_start(
     let joints = figure.plan.first().map_or(0, |&word| usize::from(word));
     let length = evaluator.output_length(&figure.plan);
     same("the output length", &(16 * joints), &length)
-}
-
-/// Of a joint too that no figure has.
-fn refused_alike(
-    figure: &Figure,
-    refusal: Refusal,
-    evaluator: &dyn Evaluator,
-    player: &mut HostPlayer,
-) -> Result<(), String> {
-    let (plan, numbers) = (&figure.plan, &floats(figure));
-    for joint in [0, usize::from(MOST_JOINTS)] {
-        let asked = CloseUp {
-            plan,
-            numbers,
-            ext: 0.5,
-            joint,
-        };
-        let shown = evaluator.close_up(asked, player);
-        same("a close-up", &HostCloseUp::of(Err(refusal)), &shown)?;
-    }
-    let asked = evaluator.loops(plan, numbers, player, NOWHERE);
-    same("a question for loops", &HostLoops::of(Err(refusal)), &asked)
 }
 
 /// The figure with less in it, while the start's answer or player is wrong.

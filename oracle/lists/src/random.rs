@@ -1,13 +1,11 @@
 //! Random figures with random steps, random plans and random texts, and behind each the fixed ones.
 
-use crate::close_up_sweep;
-use crate::counts::{Counts, ENOUGH};
-use crate::difference::same;
 use crate::evaluator::{Evaluator, HostPlayer};
+use crate::loops;
 use crate::loops_sweep;
 use crate::page_sweep;
 use crate::plans::{self, random_plan, same_start};
-use crate::run::{run, run_steps, Case, Mismatch};
+use crate::run::{run, run_steps, same, Case, Counts, Mismatch};
 use crate::shrink::shrunk;
 use crate::step::{random_steps, Step};
 use crate::sweep;
@@ -43,8 +41,8 @@ pub enum Found {
     Uses(Figure),
     /// Marks of a kind that were all alike, which shows nothing.
     Alike(&'static str),
-    /// A kind of close-up or of question that did not come, which shows nothing either.
-    Missing(String),
+    /// A kind of question for loops that did not come, which shows nothing either.
+    Missing(&'static str),
     Text(texts::Reading),
     /// A recorded list, by its name.
     Recorded(String, Mismatch),
@@ -119,8 +117,8 @@ pub fn compare(evaluator: &dyn Evaluator, amounts: Amounts, seed: u64) -> (Found
     (found.unwrap_or(Found::Nothing), counts)
 }
 
-/// Until so many frames were accepted. Each kind of close-up and of question for loops has to be among
-/// them; the fixed lists would bring it in at once.
+/// Until so many frames were accepted. Each kind of question for loops has to be among them; the fixed
+/// lists would bring it in at once.
 fn random_lists(
     evaluator: &dyn Evaluator,
     frames: usize,
@@ -133,15 +131,14 @@ fn random_lists(
             return Some(Found::List(Box::new(case)));
         }
     }
-    let is_enough = frames >= ENOUGH;
-    let missing = is_enough.then(|| counts.missing()).flatten();
+    let is_enough = frames >= loops::ENOUGH;
+    let missing = is_enough.then(|| counts.loops.missing()).flatten();
     missing.map(Found::Missing)
 }
 
 /// Those that no seed changes.
 fn fixed_lists(evaluator: &dyn Evaluator, counts: &mut Counts) -> Option<Found> {
     let cases = sweep::cases().chain(page_sweep::cases());
-    let cases = cases.chain(close_up_sweep::cases());
     for case in cases.chain(loops_sweep::cases()) {
         if run(&case, evaluator, counts).is_some() {
             return Some(Found::List(Box::new(case)));
@@ -160,15 +157,14 @@ pub fn random(
 ) -> io::Result<bool> {
     println!("lists: seed {seed}");
     let (found, [lists, plans, texts, asked]) = compare(evaluator, amounts, seed);
-    println!("lists: {}", lists.sentence());
-    println!("lists: {}", lists.close_ups.sentence());
+    println!("lists: {}", sentence(&lists));
     println!("lists: {}", lists.loops.sentence());
     println!(
         "lists: {} plans and {} texts; refused: {}; {}",
         plans.calls,
         texts.calls,
-        plans.refusals(),
-        texts.refusals()
+        refusals(&plans),
+        refusals(&texts)
     );
     println!("lists: {}", uses::sentence(&asked));
     print_found(&found, evaluator, folder)?;
@@ -194,7 +190,7 @@ fn print_found(found: &Found, evaluator: &dyn Evaluator, folder: &Path) -> io::R
         }
         Found::Uses(figure) => uses::print(figure, evaluator, folder)?,
         Found::Alike(kind) => println!("lists: the marks of {kind} were all alike"),
-        Found::Missing(kind) => println!("lists: 0 {kind}"),
+        Found::Missing(kind) => println!("lists: 0 questions for loops {kind}"),
         Found::Text(reading) => {
             let (least, what) = texts::smallest(reading, evaluator);
             let (words, numbers) = (least.words, least.numbers);
@@ -220,6 +216,35 @@ fn by_calls(evaluator: &dyn Evaluator) -> Option<Case> {
     (0..SOME_CASES)
         .map(|_| plain(random_case(&mut generator)))
         .find(|case| run(case, evaluator, &mut Counts::default()).is_some())
+}
+
+pub fn refusals(counts: &Counts) -> String {
+    let refusal = |(number, count): (&usize, &usize)| format!("{number} {count} times");
+    let all: Vec<String> = counts.refused.iter().map(refusal).collect();
+    all.join(", ")
+}
+
+fn sentence(counts: &Counts) -> String {
+    let Counts {
+        figures,
+        rusts,
+        wide,
+        calls,
+        frames,
+        clean,
+        held,
+        paused,
+        begun,
+        ended,
+        stores,
+        ..
+    } = counts;
+    format!(
+        "{frames} accepted frames ({clean} without NaN, {held} that show a held clip, {paused} an empty one) \
+         in {calls} calls to {figures} figures, {rusts} of them played by the Rust too, {wide} of more than 64 joints, \
+         {begun} transitions begun, {ended} ended, {stores} players changed by the host; refused: {}",
+        refusals(counts)
+    )
 }
 
 /// Prints the case, and writes it to files where it can be replayed from these.

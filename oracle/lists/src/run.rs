@@ -1,17 +1,21 @@
 //! A figure with steps, put to the evaluator and to the reference side by side.
 
-use crate::counts::Counts;
-use crate::difference::{difference, same};
 use crate::endings::Looping;
-use crate::evaluator::{Answer, Evaluator, HostPlayer, Question, Shown};
+use crate::evaluator::{Answer, Evaluator, HostLoops, HostPlayer, Question, Shown};
+use crate::loops::{Asked, LoopsCounts};
 use crate::output::Output;
 use crate::pauses::Pauses;
 use crate::step::{Edit, Step};
 use compare::lists::call::Call;
+use compare::lists::report::player_line;
+use compare::model::figure::Checked;
+use compare::model::loops::Played;
+use compare::player::Seen;
 use compare::reference::Reference;
 use compare::texts::draft::Draft;
 use compare::texts::figure::{Figure, Refusal};
 use compare::texts::joints::RUST_JOINTS;
+use std::collections::BTreeMap;
 
 #[derive(Clone, Debug)]
 pub struct Case {
@@ -25,6 +29,33 @@ pub struct Mismatch {
     /// 0 is the start, 1 the first step.
     pub step: usize,
     pub what: String,
+}
+
+/// What was compared so far.
+#[derive(Clone, Debug, Default)]
+pub struct Counts {
+    pub figures: usize,
+    /// Those that the Rust plays too.
+    pub rusts: usize,
+    /// Those of more joints than the Rust has.
+    pub wide: usize,
+    pub calls: usize,
+    /// Accepted frames and page frames.
+    pub frames: usize,
+    /// Those in which no float was NaN.
+    pub clean: usize,
+    /// Those in which a held clip shows: they would be others if all clips looped.
+    pub held: usize,
+    /// Those in which a state is shown that plays an empty clip.
+    pub paused: usize,
+    pub begun: usize,
+    pub ended: usize,
+    pub stores: usize,
+    pub refused: BTreeMap<usize, usize>,
+    /// How many marks were 0 and 1, of states, of parameters and of clips.
+    pub marks: [[usize; 2]; 3],
+    /// Answers to questions for loops.
+    pub loops: LoopsCounts,
 }
 
 /// The case's first difference.
@@ -48,16 +79,15 @@ pub fn run_steps(
     done.err().map(|what| Mismatch { step, what })
 }
 
-/// A player of each side. Close-ups and questions for loops have files of their own.
-pub struct Run<'a> {
-    pub evaluator: &'a dyn Evaluator,
-    pub figure: &'a Figure,
+struct Run<'a> {
+    evaluator: &'a dyn Evaluator,
+    figure: &'a Figure,
     numbers: Vec<f32>,
-    pub player: HostPlayer,
-    pub reference: Reference,
+    player: HostPlayer,
+    reference: Reference,
     looping: Looping,
     pauses: Pauses,
-    pub counts: &'a mut Counts,
+    counts: &'a mut Counts,
 }
 
 pub fn floats(figure: &Figure) -> Vec<f32> {
@@ -106,9 +136,6 @@ impl<'a> Run<'a> {
             Step::Other(figure, Call::Loops(state, node, time)) => {
                 self.other_loops(figure, question(*state, *node, *time))
             }
-            Step::Other(figure, Call::Joint(ext, joint)) => {
-                self.other_close_up(figure, f64::from_bits(*ext), *joint)
-            }
             Step::Other(figure, call) => self.other(figure, *call),
         }
     }
@@ -142,7 +169,6 @@ impl<'a> Run<'a> {
                 [answer, Answer::of(expected)]
             }
             Call::Frame(..) | Call::Page(..) => return self.frame(call),
-            Call::Joint(ext, joint) => return self.close_up(f64::from_bits(ext), joint),
             Call::Loops(state, node, time) => return self.loops(question(state, node, time)),
         };
         self.same_answer(answers[0], answers[1])?;
@@ -187,6 +213,58 @@ impl<'a> Run<'a> {
         self.same_frame(answer, expected, &output)
     }
 
+    fn loops(&mut self, question: Question) -> Result<(), String> {
+        let expected = told_by(&self.reference, question);
+        self.same_loops(self.figure, question, expected)
+    }
+
+    /// The player is shown to another figure.
+    fn other_loops(&mut self, figure: &Figure, question: Question) -> Result<(), String> {
+        let reference = Reference::resumed(figure, &self.reference.player());
+        self.same_loops(figure, question, told_by(&reference, question))
+    }
+
+    /// Nothing of the player may change, so the reference's stays as it is.
+    fn same_loops(
+        &mut self,
+        figure: &Figure,
+        question: Question,
+        expected: Result<Played, Refusal>,
+    ) -> Result<(), String> {
+        let before = self.player;
+        let (plan, numbers) = (&figure.plan, floats(figure));
+        let answer = self
+            .evaluator
+            .loops(plan, &numbers, &mut self.player, question);
+        self.count_loops(figure, question, expected);
+        self.same_answer(answer.answer(), Answer::of(expected.map(|_| ())))?;
+        same("loops and rest", &HostLoops::of(expected), &answer)?;
+        if before.bits() != self.player.bits() {
+            let [before, after] = [before, self.player].map(|player| player.player().seen());
+            let what = difference(&before, &after);
+            return Err(format!("a player that is only read: {what}"));
+        }
+        Ok(())
+    }
+
+    fn count_loops(
+        &mut self,
+        figure: &Figure,
+        question: Question,
+        expected: Result<Played, Refusal>,
+    ) {
+        let counts = &mut self.counts.loops;
+        if let Err(refusal) = expected {
+            return counts.count_refused(refusal);
+        }
+        let figure = Checked::new(figure).ok();
+        let asked = figure
+            .as_ref()
+            .and_then(|figure| Asked::new(figure, question));
+        let asked = asked.expect("what is accepted is a clip node");
+        counts.count_accepted(&asked, &self.reference.player());
+    }
+
     fn same_frame(
         &mut self,
         answer: Answer,
@@ -206,13 +284,13 @@ impl<'a> Run<'a> {
         self.same_player(expected.is_ok())
     }
 
-    pub fn count_steps(&mut self, before: bool) {
+    fn count_steps(&mut self, before: bool) {
         let after = self.reference.is_running();
         self.counts.begun += usize::from(!before && after);
         self.counts.ended += usize::from(before && !after);
     }
 
-    pub fn same_answer(&mut self, actual: Answer, expected: Answer) -> Result<(), String> {
+    fn same_answer(&mut self, actual: Answer, expected: Answer) -> Result<(), String> {
         self.counts.calls += 1;
         if !expected.is_accepted() {
             *self.counts.refused.entry(expected.number).or_default() += 1;
@@ -220,7 +298,7 @@ impl<'a> Run<'a> {
         same("the answer", &expected, &actual)
     }
 
-    pub fn same_player(&self, written: bool) -> Result<(), String> {
+    fn same_player(&self, written: bool) -> Result<(), String> {
         let (expected, actual) = (self.reference.player().seen(), self.player.player().seen());
         if expected != actual {
             return Err(difference(&expected, &actual));
@@ -229,15 +307,6 @@ impl<'a> Run<'a> {
             return Err("fields without meaning are not as calls write them".to_string());
         }
         Ok(())
-    }
-
-    /// That the player has all the bits that it had before.
-    pub fn unchanged(&self, whose: &str, before: &HostPlayer) -> Result<(), String> {
-        if before.bits() == self.player.bits() {
-            return Ok(());
-        }
-        let [before, after] = [*before, self.player].map(|player| player.player().seen());
-        Err(format!("{whose}: {}", difference(&before, &after)))
     }
 }
 
@@ -254,6 +323,10 @@ fn question(state: usize, node: usize, time: u32) -> Question {
     Question { state, node, time }
 }
 
+fn told_by(reference: &Reference, question: Question) -> Result<Played, Refusal> {
+    reference.loops(question.state, question.node, question.time)
+}
+
 fn shown_by(reference: &mut Reference, call: Call) -> Result<Matrices, Refusal> {
     match frame_arguments(call) {
         (Shown::Frame, ext, length) => reference.frame(ext, length),
@@ -261,48 +334,40 @@ fn shown_by(reference: &mut Reference, call: Call) -> Result<Matrices, Refusal> 
     }
 }
 
-#[cfg(test)]
-mod tests {
-    use super::*;
-    use crate::abi::Library;
-    use crate::close_up_sweep;
-    use crate::random::random_case;
-    use compare::generator::Generator;
-    use compare::player::Seen;
-
-    /// The player after each step.
-    fn players(case: &Case) -> Vec<Seen> {
-        let figure = case.draft.figure();
-        let mut counts = Counts::default();
-        let (mut run, started) = Run::start(&Library, &figure, &mut counts);
-        started.unwrap();
-        let after = |step: &Step| {
-            run.step(step).unwrap();
-            run.player.player().seen()
-        };
-        case.steps.iter().map(after).collect()
+pub fn same<T: PartialEq + std::fmt::Debug>(
+    what: &str,
+    expected: &T,
+    actual: &T,
+) -> Result<(), String> {
+    if expected == actual {
+        return Ok(());
     }
+    Err(format!(
+        "{what}\n  reference  {expected:x?}\n  library    {actual:x?}"
+    ))
+}
 
-    fn with_frames(case: &Case) -> Case {
-        let joints = case.draft.parents.len();
-        let framed = |step: &Step| match step {
-            Step::Call(Call::Joint(ext, joint)) if *joint < joints => {
-                Step::Call(Call::Frame(*ext, 16 * joints))
-            }
-            other => other.clone(),
-        };
-        Case {
-            draft: case.draft.clone(),
-            steps: case.steps.iter().map(framed).collect(),
-        }
+/// Says where two players differ.
+pub fn difference(expected: &Seen, actual: &Seen) -> String {
+    let [reference, library] = [expected, actual].map(player_line);
+    if reference != library {
+        return format!(
+            "the player\n  reference  {reference}  library    {}",
+            library.trim_end()
+        );
     }
-
-    #[test]
-    fn with_frames_for_its_close_ups_a_list_goes_on_alike() {
-        let mut generator = Generator::new(6);
-        let random = (0..1000).map(|_| random_case(&mut generator));
-        for case in close_up_sweep::cases().chain(random) {
-            assert_eq!(players(&case), players(&with_frames(&case)));
-        }
+    let mut checks = Vec::new();
+    for (i, (a, b)) in expected
+        .parameters
+        .iter()
+        .zip(&actual.parameters)
+        .enumerate()
+    {
+        checks.push(same(&format!("parameter {i}"), a, b));
     }
+    for (i, (a, b)) in expected.instances.iter().zip(&actual.instances).enumerate() {
+        checks.push(same(&format!("clip instance {i}"), a, b));
+    }
+    let first = checks.into_iter().find_map(Result::err);
+    first.unwrap_or_else(|| "fields without meaning".to_string())
 }

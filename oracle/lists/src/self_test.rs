@@ -51,7 +51,7 @@ fn judged(library: &dyn Evaluator, fault: Fault) -> Result<String, String> {
             }
         }
         (Found::Alike(kind), _) => Err(format!("marks of {kind} all alike")),
-        (Found::Missing(kind), _) => Err(format!("no {kind}")),
+        (Found::Missing(kind), _) => Err(format!("no question for loops {kind}")),
         (Found::Text(_), _) => Ok("a text".to_string()),
         (Found::Recorded(name, _), _) => Ok(format!("recorded list {name}")),
         (Found::Size(_), _) => Err("a player's size".to_string()),

@@ -1,8 +1,7 @@
 //! Makes a mismatching case small for its reader.
 
-use crate::counts::Counts;
 use crate::evaluator::Evaluator;
-use crate::run::{run, Case, Mismatch};
+use crate::run::{run, Case, Counts, Mismatch};
 use crate::smaller_draft::{plainer_drafts, smaller_drafts};
 use crate::step::Step;
 use compare::lists::call::Call;
@@ -93,13 +92,6 @@ fn plainer_calls(call: Call) -> Vec<Call> {
             calls.extend(doubles(ext).map(|ext| Call::Page(ext, length)));
             calls
         }
-        Call::Joint(ext, joint) => {
-            let joints = smaller_numbers(joint).into_iter();
-            let joints = joints.map(|joint| Call::Joint(ext, joint));
-            joints
-                .chain(doubles(ext).map(|ext| Call::Joint(ext, joint)))
-                .collect()
-        }
         Call::Loops(state, node, time) => plainer_questions(state, node, time),
     }
 }
@@ -152,7 +144,7 @@ fn fitting(case: &Case, draft: Draft) -> Vec<Case> {
     let lengths = [&case.draft, &draft].map(|draft| 16 * draft.parents.len());
     let with = |asked: Renumbered| {
         let steps = case.steps.iter().map(|step| match step {
-            Step::Call(call) => Step::Call(fitted(asked(*call), lengths)),
+            Step::Call(call) => Step::Call(fitted(*call, lengths, asked)),
             other => other.clone(),
         });
         Case {
@@ -163,67 +155,39 @@ fn fitting(case: &Case, draft: Draft) -> Vec<Case> {
     renumberings(case, &draft).into_iter().map(with).collect()
 }
 
-/// A call with what it asks for, in another figure.
-type Renumbered = Box<dyn Fn(Call) -> Call>;
+/// The state and node of a question, in another figure.
+type Renumbered = fn(usize, usize) -> (usize, usize);
 
-/// As it was; and where the figure has a state less, a smaller tree or fewer joints, as what has moved down.
+/// As they were; and where the figure has a state less or a smaller tree, as what has moved down.
 fn renumberings(case: &Case, draft: &Draft) -> Vec<Renumbered> {
-    let mut all: Vec<Renumbered> = vec![Box::new(|call| call)];
-    let calls = || case.steps.iter().filter_map(called);
-    if calls().any(|call| matches!(call, Call::Loops(..))) {
-        all.extend(fewer_nodes(&case.draft, draft));
+    let is_question = |step: &Step| matches!(step, Step::Call(Call::Loops(..)));
+    let mut all: Vec<Renumbered> = vec![|state, node| (state, node)];
+    if !case.steps.iter().any(is_question) {
+        return all;
     }
-    if calls().any(|call| matches!(call, Call::Joint(..))) {
-        all.extend(fewer_joints(&case.draft, draft));
-    }
-    all
-}
-
-fn called(step: &Step) -> Option<Call> {
-    match step {
-        Step::Call(call) => Some(*call),
-        _ => None,
-    }
-}
-
-fn fewer_nodes(old: &Draft, new: &Draft) -> Option<Renumbered> {
-    let [old, new] = [old, new].map(|draft| {
+    let [old, new] = [&case.draft, draft].map(|draft| {
         let states = draft.states.iter();
         states
             .map(|state| state.nodes.len())
             .collect::<Vec<usize>>()
     });
     if new.len() < old.len() {
-        return Some(Box::new(|call| match call {
-            Call::Loops(state, node, time) => Call::Loops(state.saturating_sub(1), node, time),
-            other => other,
-        }));
+        all.push(|state, node| (state.saturating_sub(1), node));
+    } else if new < old {
+        all.push(|state, _| (state, 0));
     }
-    let is_smaller = new < old;
-    is_smaller.then(|| -> Renumbered {
-        Box::new(|call| match call {
-            Call::Loops(state, _, time) => Call::Loops(state, 0, time),
-            other => other,
-        })
-    })
+    all
 }
 
-/// As far from the last joint as before.
-fn fewer_joints(old: &Draft, new: &Draft) -> Option<Renumbered> {
-    let gone = old.parents.len().saturating_sub(new.parents.len());
-    (gone > 0).then(|| -> Renumbered {
-        Box::new(move |call| match call {
-            Call::Joint(ext, joint) => Call::Joint(ext, joint.saturating_sub(gone)),
-            other => other,
-        })
-    })
-}
-
-fn fitted(call: Call, [old, new]: [usize; 2]) -> Call {
+fn fitted(call: Call, [old, new]: [usize; 2], asked: Renumbered) -> Call {
     let fitted = |length: usize| if length == old { new } else { length };
     match call {
         Call::Frame(ext, length) => Call::Frame(ext, fitted(length)),
         Call::Page(ext, length) => Call::Page(ext, fitted(length)),
+        Call::Loops(state, node, time) => {
+            let (state, node) = asked(state, node);
+            Call::Loops(state, node, time)
+        }
         other => other,
     }
 }
@@ -232,8 +196,6 @@ fn fitted(call: Call, [old, new]: [usize; 2]) -> Call {
 mod tests {
     use super::*;
     use crate::abi::Library;
-    use crate::close_up_fault::CloseUpFault;
-    use crate::close_up_sweep;
     use crate::faults::{Fault, Faulty};
     use crate::loops_sweep;
 
@@ -259,26 +221,5 @@ mod tests {
             least.steps[0],
             Step::Call(Call::Loops(0, 0, time)) if time > 0
         ));
-    }
-
-    /// The last joint of 400 in a chain is found again as the last of as many as it takes.
-    #[test]
-    fn a_close_up_stays_with_its_joint() {
-        for (fault, joints) in [(CloseUpFault::CutAt64, 65), (CloseUpFault::WithoutRoot, 1)] {
-            let faulty = Faulty {
-                library: &Library,
-                fault: Fault::CloseUp(fault),
-            };
-            let shows = |case: &Case| {
-                let shown = run(case, &faulty, &mut Counts::default());
-                case.draft.parents.len() == 400 && shown.is_some()
-            };
-            let mut cases = close_up_sweep::cases();
-            let (least, _) = shrunk(&cases.find(shows).unwrap(), &faulty);
-            assert_eq!(least.draft.parents.len(), joints, "{fault:?}");
-            let calls: Vec<Call> = least.steps.iter().filter_map(called).collect();
-            let last = joints - 1;
-            assert!(matches!(calls[..], [Call::Joint(_, joint)] if joint == last));
-        }
     }
 }

@@ -12,8 +12,7 @@ pub enum Step {
     Call(Call),
     /// The host writes its player's fields.
     Store(Vec<Edit>),
-    /// A frame of either kind, a close-up or a question for loops with another figure than the player's
-    /// own.
+    /// A frame, a page frame or a question for loops with another figure than the player's own.
     Other(Box<Figure>, Call),
 }
 
@@ -87,8 +86,10 @@ pub fn random_steps(
         1 => {
             let call = call(generator, draft, calls);
             match call {
-                Call::Update(..) | Call::Speed(..) | Call::Set(..) => Step::Call(call),
-                _ => Step::Other(Box::new(others(generator)), call),
+                Call::Frame(..) | Call::Page(..) | Call::Loops(..) => {
+                    Step::Other(Box::new(others(generator)), call)
+                }
+                _ => Step::Call(call),
             }
         }
         _ => Step::Call(call(generator, draft, calls)),

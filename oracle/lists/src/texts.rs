@@ -1,8 +1,7 @@
 //! Texts put to the library's reader, with slices too short, long enough and longer.
 
-use crate::counts::Counts;
-use crate::difference::same;
 use crate::evaluator::{Evaluator, TextAnswer};
+use crate::run::{same, Counts};
 use compare::generator::Generator;
 use compare::texts::figure::{Figure, Refusal};
 use compare::texts::limits::MOST_WORDS;

@@ -1,11 +1,9 @@
 //! What a figure can ever use, put to the library and to the model.
 
-use crate::counts::Counts;
-use crate::difference::same;
 use crate::evaluator::{Evaluator, HostUses};
 use crate::plans::{damage, smaller_figures};
-use crate::random::Found;
-use crate::run::floats;
+use crate::random::{refusals, Found};
+use crate::run::{floats, same, Counts};
 use crate::smaller_draft::smaller_drafts;
 use compare::generator::Generator;
 use compare::model::uses::uses;
@@ -104,7 +102,7 @@ pub fn sentence(counts: &Counts) -> String {
         "{} figures asked for what they use: marked {}; refused: {}",
         counts.calls,
         kinds.join(", "),
-        counts.refusals()
+        refusals(counts)
     )
 }
 

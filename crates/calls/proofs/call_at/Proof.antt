@@ -4,7 +4,7 @@ use Prim.Native.Nat.{ℕ}
 use native.Mathlib.Omega.{arith}
 use lib.ListN.{drop}
 use Rattle.fields.proofs.Bytes.{positive_at}
-use Rattle.calls.specs.CallText.{update_name, speed_name, set_name, frame_name, page_name, joint_name, loops_name, kinds}
+use Rattle.calls.specs.CallText.{update_name, speed_name, set_name, frame_name, page_name, loops_name, kinds}
 use Rattle.calls.proofs.LineLaws.{Among, of_any, of_this, of_another, of_none}
 use Rattle.calls.proofs.call_at.Statement.{statement}
 use Rattle.calls.proofs.call_at.Tie as tie
@@ -28,9 +28,6 @@ start4 c = start3 c.before.before.before
 abbrev start5 : tie.Else5 → tie.Start
 start5 c = start4 c.before.before.before
 
-abbrev start6 : tie.Else6 → tie.Start
-start6 c = start5 c.before.before.before
-
 past-update : (c : tie.Else1) → Past (start1 c) 1
 past-update c = of_another (of_any _ _) c.before.name-at.ensures.0 (omega arith) c.if1.false
 
@@ -45,9 +42,6 @@ past-frame c = of_another (past-set c.before.before.before) c.before.name-at4.en
 
 past-page : (c : tie.Else5) → Past (start5 c) 5
 past-page c = of_another (past-frame c.before.before.before) c.before.name-at5.ensures.0 (omega arith) c.if5.false
-
-past-joint : (c : tie.Else6) → Past (start6 c) 6
-past-joint c = of_another (past-page c.before.before.before) c.before.name-at6.ensures.0 (omega arith) c.if6.false
 
 returns : tie.Need-returns
 returns c = of_this (of_any _ _) c.before.before.name-at.ensures.0 c.before.if1.true c.time-line.ensures
@@ -65,27 +59,22 @@ returns-3 c =
 returns-4 : tie.Need-returns-4
 returns-4 c =
     let b = c.before.before in
-    of_this (past-set b.before.before) b.name-at4.ensures.0 c.before.if4.true c.ext-line.ensures
+    of_this (past-set b.before.before) b.name-at4.ensures.0 c.before.if4.true c.frame-line.ensures
 
 returns-5 : tie.Need-returns-5
 returns-5 c =
     let b = c.before.before in
-    of_this (past-frame b.before.before) b.name-at5.ensures.0 c.before.if5.true c.ext-line2.ensures
+    of_this (past-frame b.before.before) b.name-at5.ensures.0 c.before.if5.true c.frame-line2.ensures
 
 returns-6 : tie.Need-returns-6
 returns-6 c =
     let b = c.before.before in
-    of_this (past-page b.before.before) b.name-at6.ensures.0 c.before.if6.true c.ext-line3.ensures
+    of_this (past-page b.before.before) b.name-at6.ensures.0 c.before.if6.true c.loops-line.ensures
 
 returns-7 : tie.Need-returns-7
 returns-7 c =
     let b = c.before.before in
-    of_this (past-joint b.before.before) b.name-at7.ensures.0 c.before.if7.true c.loops-line.ensures
-
-returns-8 : tie.Need-returns-8
-returns-8 c =
-    let b = c.before.before in
-    of_none (of_another (past-joint b.before.before) b.name-at7.ensures.0 (omega arith) c.before.if7.false) c.malformed.ensures
+    of_none (of_another (past-page b.before.before) b.name-at6.ensures.0 (omega arith) c.before.if6.false) c.malformed.ensures
 
 pub call-at-spec : {M : Type 1} → statement M
 call-at-spec =
@@ -117,14 +106,9 @@ call-at-spec =
     (search rules)
     returns-5
     (search rules)
-    (λ c κs. positive_at joint_name tt)
+    (λ c κs. positive_at loops_name tt)
     (search rules)
     (search rules)
     returns-6
     (search rules)
-    (λ c κs. positive_at loops_name tt)
-    (search rules)
-    (search rules)
-    returns-7
-    (search rules)
-    returns-8)
+    returns-7)

@@ -1,6 +1,6 @@
 -- `capi::gentianlathe_set` meets its contract: a walk of its MIR, by hand. The player is copied whole, `parameter_set` gets the copy, and of what it returns the player takes the old one's place and the
 -- answer is returned. Assumes nothing.
-use mathlib.Core.Path.{refl}
+use mathlib.Core.Path.{refl, ap}
 use Prim.Native.Nat.{ℕ}
 use mathlib.Core.List.{[], ◌∷◌, List}
 use seplogic.Ra.Ura.{Ura}
@@ -9,15 +9,16 @@ use lib.Ieee.{Float, binary32}
 use mir.Syntax.{named, w64}
 use mir.Val.{Val, vint, vfloat, vptr}
 use base.Logic.{SProp, ent, emp, via, fst∗, snd∗, ex_e, id⊢}
-use base.Fml.{GName, Lft, Share, Fml, ftrue, flft, fobs, fbor}
+use base.Fml.{GName, Lft, Share, Fml, ftrue, flft, fobs, fbor, fat}
 use prog.Memory.{Memory}
 use prog.Routine.{Routine}
 use prog.Wp.{Calls, Loops, WpFn, Tables}
 use types.Logic.{Logic, sem}
 use contract.Monad.{Fun, fact}
-use types.Kit.{Item, ‵, raw, ◌⊛◌, ⋆, some, later, ◌$◌, ◌∵◌, !, qed, by, move, keep, drop, use1, use2, split, join, pick, fsplit, fsplit3, fjoin, fjoin3}
+use types.Kit.{Item, ‵, raw, ◌⊛◌, ⋆, some, later, ◌$◌, ◌∵◌, !, qed, by, move, keep, drop, use1, use2, rewrite, split, join, pick, fsplit, fsplit3, fjoin, fjoin3}
 use types.Kit.{feq_i, suffices, frame, await, done}
-use types.Run.{look, look_raw, init, forget, stop, hop, from, load, and_then, no_more, of_opd, assigns, returns}
+use types.Part.{whole, sub, look_in}
+use types.Run.{look, look_raw, store_raw, init, forget, stop, hop, fld, from, load, and_then, no_more, land, of_opd, assigns, returns}
 use types.Run.{enter, alloc1, alloc0, params1, pass1, pass0, free1, free0}
 use types.SemTy.{Body}
 use sound.WpLaws.{FmC, fm_of, WpFn-mono}
@@ -29,7 +30,7 @@ use denote.Floats.{float_vals, float_Tells, float_Makes, passes}
 use denote.Builtin.{usize, f32}
 use denote.Ref.{MutBor, MutRef, mut_vals, mut_Tells}
 use denote.Signature.{plain}
-use denote.Steps.{opens, owned, peeks, heard, nothing}
+use denote.Steps.{only, opens, closes, owned, peeks, heard, nothing}
 use denote.Struct.Steps.{spelt}
 use denote.Struct.Laws as LL
 use denote.Triple.Statement.{Contract, Triple}
@@ -52,7 +53,6 @@ use Rattle.host_player.specs.contracts.parameter_set as callee
 use Rattle.host_player.proofs.parameter_set.Symbol.{name as #callee}
 use Rattle.host_player.proofs.parameter_set.Met as callee-thm
 use Rattle.model.proofs.OneCall.{over_call}
-use Rattle.capi.proofs.Answered.{answered}
 use Rattle.capi.specs.contracts.gentianlathe_set.Key.{name}
 use Rattle.capi.specs.contracts.gentianlathe_set as f
 use Rattle.capi.proofs.gentianlathe_set.Statement as stated
@@ -148,11 +148,18 @@ module _ {M : Type 1} {𝓤 : Ura M} (𝓛 : Logic 𝓤) (at_mem : Memory → SP
           peeks ! R.the_row (Is R.the_row) (shows 𝓛 R.the_row) r (v ∷ []) (λ is-r.
           let gave = LL.owed R.the_type R'.the_laws r _ is-r in
           -- [what r owns; the player's cell; the open borrow; obs; auth; _5; …]
-          drop ! $ move ! (0 ∷ 1 ∷ 2 ∷ 3 ∷ 6 ∷ 12 ∷ 14 ∷ []) $
-          answered N.the_type T.the_type (R.the_type).name HostOutcome (λ d. d.answer) (λ d. d.player) (R.the_type).to_one N'.the_field_laws T'.the_field_laws T'.the_plain ! r v is-r refl refl refl $
-          -- [obs; the borrow; the token; _4; _1; _0; _5; …; what is left of _4; _3; …]
-          returns ! (look ! 5 refl) $ forget ! 3 refl $ forget ! 4 refl $ forget ! 5 refl $ forget ! 6 refl $ forget ! 9 refl $ forget ! 11 refl $
-          move ! (5 ∷ 14 ∷ []) $ free1 ! $ move ! (4 ∷ 12 ∷ []) $ free1 ! $ move ! (9 ∷ 10 ∷ []) $ free1 ! $ move ! (7 ∷ 8 ∷ []) $ free1 ! $ move ! (3 ∷ 6 ∷ []) $ free1 ! $ move ! (3 ∷ 4 ∷ []) $ free1 ! $ free0 ! $ keep ! (0 ∷ 1 ∷ 2 ∷ []) $ by ! (exits r _ e gave.0)))))))))))))
+          land ! (from ! (stop !)) (init ! 7 refl ((LL.lawful R.the_type R'.the_laws 𝓛).typed r _ is-r).0) $
+          rewrite ! 7 (λ (u : Val). ‵ (fat full_share R'.mir l₄ 0 u)) (ap only (LL.tells R.the_type R'.the_laws r _ is-r)) refl $ drop ! $
+          -- [the player's cell; the open borrow; obs; auth; _5; …; _4; …; _3; …; _2; …; _1; …; room for _0; …]
+          assigns ! (of_opd ! (load ! (from ! (fld ! refl (stop !))) (look_in ! 6 (sub ! 1 refl (whole !))))) (from ! (hop ! (look ! 12 refl) (stop !)))
+          (store_raw ! 0 refl (lawful.typed r.player _ gave.1.0).0) $
+          assigns ! (of_opd ! (load ! (from ! (fld ! refl (stop !))) (look_in ! 6 (sub ! 0 refl (whole !))))) (from ! (stop !))
+          (init ! 14 refl ((LL.lawful N.the_type N'.the_laws 𝓛).typed r.answer _ gave.0).0) $
+          owned ! T.the_row (Is T.the_row) ((LL.makes T.the_type T'.the_plain) 𝓛) r.player _ gave.1.0 $
+          move ! (1 ∷ 0 ∷ []) $ closes ! tt T.the_row r.player (LL.vals T.the_type T'.the_laws r.player) b o $
+          returns ! (look ! 13 refl) $ forget ! 3 refl $ forget ! 5 refl $ forget ! 7 refl $ forget ! 9 refl $ forget ! 11 refl $ forget ! 13 refl $
+          move ! (13 ∷ 14 ∷ []) $ free1 ! $ move ! (11 ∷ 12 ∷ []) $ free1 ! $ move ! (9 ∷ 10 ∷ []) $ free1 ! $ move ! (7 ∷ 8 ∷ []) $ free1 ! $ move ! (5 ∷ 6 ∷ []) $ free1 ! $
+          move ! (3 ∷ 4 ∷ []) $ free1 ! $ free0 ! $ keep ! (0 ∷ 1 ∷ 2 ∷ []) $ by ! (exits r _ e gave.0)))))))))))))
 
   meets : (𝓣 : Tables 𝓤 H) → Triple 𝓤 (𝓣.C #callee) (Callee 𝓛 at_mem run)
       → Meets 𝓛 f.signature (WpFn 𝓤 H 𝓣.C 𝓣.Λ code.function) (f.spec 𝓛 at_mem run)

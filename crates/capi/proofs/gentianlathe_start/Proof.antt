@@ -1,6 +1,6 @@
 -- `capi::gentianlathe_start` meets its contract: a walk of its MIR, by hand. `started` gets the plan and the numbers, and of what it returns the player takes the place of whatever was there and the answer
 -- is returned. Assumes nothing.
-use mathlib.Core.Path.{refl}
+use mathlib.Core.Path.{refl, ap}
 use Prim.Native.Nat.{ℕ}
 use mathlib.Core.List.{[], ◌∷◌, List}
 use lib.ListN.{length}
@@ -10,15 +10,16 @@ use lib.Ieee.{Float}
 use mir.Syntax.{named}
 use mir.Val.{Val, vptr}
 use base.Logic.{SProp, ent, emp, via, fst∗, snd∗, ex_e, id⊢}
-use base.Fml.{GName, Lft, Share, Fml, ftrue, flft, fobs, fbor}
+use base.Fml.{GName, Lft, Share, Fml, ftrue, flft, fobs, fbor, fat}
 use prog.Memory.{Memory}
 use prog.Routine.{Routine}
 use prog.Wp.{Calls, Loops, WpFn, Tables}
 use types.Logic.{Logic, sem}
 use contract.Monad.{Fun, fact}
-use types.Kit.{Item, ‵, raw, ◌⊛◌, ⋆, some, later, ◌$◌, ◌∵◌, !, qed, by, move, keep, drop, use1, use2, split, join, pick, fsplit, fsplit3, fjoin, fjoin3}
+use types.Kit.{Item, ‵, raw, ◌⊛◌, ⋆, some, later, ◌$◌, ◌∵◌, !, qed, by, move, keep, drop, use1, use2, rewrite, split, join, pick, fsplit, fsplit3, fjoin, fjoin3}
 use types.Kit.{feq_i, suffices, frame, await, done}
-use types.Run.{look, init, forget, stop, from, load, and_then, no_more, returns}
+use types.Part.{whole, sub, look_in}
+use types.Run.{look, store_raw, init, forget, stop, hop, fld, from, load, and_then, no_more, land, of_opd, assigns, returns}
 use types.Run.{enter, alloc1, alloc0, params1, pass1, pass0, free1, free0}
 use types.SemTy.{Body}
 use sound.WpLaws.{FmC, fm_of, WpFn-mono}
@@ -29,7 +30,7 @@ use denote.Builtin.{u16, f32}
 use denote.Ref.{Bor, MutBor, MutRef, shr_vals, mut_Tells}
 use denote.Signature.{plain, shr_slice_of}
 use denote.Slice.{slice_val, ShrSlice, shr_slice_vals, shr_slice_Tells, shr_slice_Lawful}
-use denote.Steps.{opens, owned, peeks, heard, nothing}
+use denote.Steps.{only, opens, closes, owned, peeks, heard, nothing}
 use denote.Struct.Steps.{spelt}
 use denote.Struct.Laws as LL
 use denote.Triple.Statement.{Contract, Triple}
@@ -52,7 +53,6 @@ use Rattle.host_player.specs.contracts.started as callee
 use Rattle.host_player.proofs.started.Symbol.{name as #callee}
 use Rattle.host_player.proofs.started.Met as callee-thm
 use Rattle.model.proofs.OneCall.{over_call}
-use Rattle.capi.proofs.Answered.{answered}
 use Rattle.capi.specs.contracts.gentianlathe_start.Key.{name}
 use Rattle.capi.specs.contracts.gentianlathe_start as f
 use Rattle.capi.proofs.gentianlathe_start.Statement as stated
@@ -132,6 +132,7 @@ module _ {M : Type 1} {𝓤 : Ura M} (𝓛 : Logic 𝓤) (at_mem : Memory → SP
           → ent 𝓤 (on_entry 𝓛 f.signature (κ₀, (κ₁, (κ₂, tt))) (q₀, (q₁, (q₂, tt))) x vs) (WpFn 𝓤 H C Λ code.function (v₀ ∷ v₁ ∷ vptr b o ∷ []) Post)
       walk s-is n-is =
           let shown = shows 𝓛 T.the_row in
+          let lawful = LL.lawful T.the_type T'.the_laws 𝓛 in
           qed 𝓛 ((‵ (flft κ₀ q₀) ⊛ ‵ (flft κ₁ q₁) ⊛ ‵ (flft κ₂ q₂) ⊛ ‵ ftrue) ∷ ‵ (owns (ShrSlice (named 0) κ₀ u16 ∷ ShrSlice (named 1) κ₁ f32 ∷ MutRef (named 2) κ₂ T.the_row ∷ []) x vs) ∷ []) ∵
           split ! $ move ! (1 ∷ []) $ split ! $ move ! (1 ∷ []) $ split ! $ move ! (4 ∷ []) $ fsplit ! $ move ! (1 ∷ []) $ fsplit ! $ move ! (1 ∷ []) $ fsplit ! $ fsplit3 ! $ drop ! $
           -- [obs; the borrow; true; what numbers owns; what plan owns; the player's token; true; numbers' token; plan's token]
@@ -153,11 +154,19 @@ module _ {M : Type 1} {𝓤 : Ura M} (𝓛 : Logic 𝓤) (at_mem : Memory → SP
           peeks ! R.the_row (Is R.the_row) (shows 𝓛 R.the_row) r (v ∷ []) (λ is-r.
           let gave = LL.owed R.the_type R'.the_laws r _ is-r in
           -- [what r owns; the tokens; the player's cell; the open borrow; obs; auth; _4; …; _0; …]
-          drop ! $ move ! (1 ∷ 2 ∷ 3 ∷ 4 ∷ 5 ∷ 7 ∷ 13 ∷ []) $
-          answered N.the_type T.the_type (R.the_type).name HostOutcome (λ d. d.answer) (λ d. d.player) (R.the_type).to_one N'.the_field_laws T'.the_field_laws T'.the_plain ! r v is-r refl refl refl $
-          -- [obs; the borrow; the player's token; _4; _3; _0; the tokens; what is left of _4; of _3; _2; …]
-          returns ! (look ! 5 refl) $ forget ! 3 refl $ forget ! 4 refl $ forget ! 5 refl $ forget ! 9 refl $ forget ! 11 refl $
-          move ! (5 ∷ 13 ∷ []) $ free1 ! $ move ! (10 ∷ 11 ∷ []) $ free1 ! $ move ! (8 ∷ 9 ∷ []) $ free1 ! $ move ! (4 ∷ 7 ∷ []) $ free1 ! $ move ! (3 ∷ 5 ∷ []) $ free1 ! $ free0 ! $ keep ! (0 ∷ 1 ∷ 2 ∷ 3 ∷ []) $ by ! (exits r _ e gave.0)))))))))))
+          land ! (from ! (stop !)) (init ! 6 refl ((LL.lawful R.the_type R'.the_laws 𝓛).typed r _ is-r).0) $
+          rewrite ! 6 (λ (u : Val). ‵ (fat full_share R'.mir l₄ 0 u)) (ap only (LL.tells R.the_type R'.the_laws r _ is-r)) refl $ drop ! $
+          -- [the tokens; the player's cell; the open borrow; obs; auth; _4; …; _3; …; _2; …; _1; …; room for _0; …]
+          assigns ! (of_opd ! (load ! (from ! (fld ! refl (stop !))) (look_in ! 5 (sub ! 1 refl (whole !))))) (from ! (hop ! (look ! 7 refl) (stop !)))
+          (store_raw ! 1 refl (lawful.typed r.player _ gave.1.0).0) $
+          assigns ! (of_opd ! (load ! (from ! (fld ! refl (stop !))) (look_in ! 5 (sub ! 0 refl (whole !))))) (from ! (stop !))
+          (init ! 13 refl ((LL.lawful N.the_type N'.the_laws 𝓛).typed r.answer _ gave.0).0) $
+          owned ! T.the_row (Is T.the_row) ((LL.makes T.the_type T'.the_plain) 𝓛) r.player _ gave.1.0 $
+          move ! (2 ∷ 0 ∷ 3 ∷ 4 ∷ 5 ∷ []) $ closes ! tt T.the_row r.player (LL.vals T.the_type T'.the_laws r.player) b o $
+          -- [obs; the borrow; the player's token; the tokens; _4; …; _0; …]
+          returns ! (look ! 12 refl) $ forget ! 4 refl $ forget ! 6 refl $ forget ! 8 refl $ forget ! 10 refl $ forget ! 12 refl $
+          move ! (12 ∷ 13 ∷ []) $ free1 ! $ move ! (10 ∷ 11 ∷ []) $ free1 ! $ move ! (8 ∷ 9 ∷ []) $ free1 ! $ move ! (6 ∷ 7 ∷ []) $ free1 ! $ move ! (4 ∷ 5 ∷ []) $ free1 ! $ free0 ! $
+          keep ! (0 ∷ 1 ∷ 2 ∷ 3 ∷ []) $ by ! (exits r _ e gave.0)))))))))))
 
   meets : (𝓣 : Tables 𝓤 H) → Triple 𝓤 (𝓣.C #callee) (Callee 𝓛 at_mem run)
       → Meets 𝓛 f.signature (WpFn 𝓤 H 𝓣.C 𝓣.Λ code.function) (f.spec 𝓛 at_mem run)

@@ -53,7 +53,7 @@ returns c =
     let below = still_below _ _ (player s) _ _ _ l.state-layout.ensures t.step.ensures s.requires.0.passed s.requires.1 s.requires.2 in
     let single = g.is-single.ensures x.if1.true in
     let shown = shown_alone s.requires.0 (in_plan _ _ h.layout_of.ensures below) single.1 _ _ _ _ _ _ _ _ single.2 w.show-joint.ensures in
-    played _ _ _ _ _ _ l.state-layout.ensures t.step.ensures _ h.layout_of.ensures _ n.narrow.ensures _ _ _ _ shown
+    played _ _ _ _ _ _ l.state-layout.ensures t.step.ensures _ _ h.layout_of.ensures _ n.narrow.ensures _ _ _ shown
 
 show-requires : tie.Need-show-requires
 unfolding now_at
@@ -74,7 +74,7 @@ returns-2 c =
     let h = n.before in
     let t = h.before in
     let l = t.before in
-    played _ _ _ _ _ _ l.state-layout.ensures t.step.ensures _ h.layout_of.ensures _ n.narrow.ensures _ _ _ _ w.show.ensures
+    played _ _ _ _ _ _ l.state-layout.ensures t.step.ensures _ _ h.layout_of.ensures _ n.narrow.ensures _ _ _ w.show.ensures
 
 pub play-spec : {M : Type 1} → statement M
 play-spec = tie.close (tie.spec (λ c κs. search rules) step-requires layout-of-requires (search rules) (search rules) show-joint-requires (search rules) returns show-requires (search rules) returns-2)

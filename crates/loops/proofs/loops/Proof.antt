@@ -3,9 +3,8 @@ use borrow.Author.Rules.{rules}
 use borrow.Author.Tests.{not_true, not-false}
 use mathlib.Core.Path.{refl}
 use Rattle.blend_tree.specs.Blocks.{Playable}
-use Rattle.model.specs.declared.Player.{Player}
-use Rattle.frames.proofs.Laws.{playable, player_refuses_play, player_passes}
-use Rattle.loops.proofs.Laws.{check_handed, play_refused}
+use Rattle.frames.proofs.Laws.{playable}
+use Rattle.loops.proofs.Laws.{check_handed, player_refused, player_passes}
 use Rattle.loops.proofs.loops.Statement.{statement}
 use Rattle.loops.proofs.loops.Tie as tie
 
@@ -22,8 +21,7 @@ returns-2 : tie.Need-returns-2
 returns-2 c =
     let t = c.before.before in
     let h = t.before in
-    let player : Player = h.before.before.before.before.before.before.before.args.player in
-    play_refused _ _ _ _ _ _ 9 0 (player_refuses_play _ _ player (known h.before.before) h.has-states.ensures (not_true _ t.if1.true)) c.before.refused.ensures c.nothing-counted2.ensures
+    player_refused _ _ _ _ _ _ (known h.before.before) h.has-states.ensures (not_true _ t.if1.true) c.before.refused.ensures c.nothing-counted2.ensures
 
 count-at-requires : tie.Need-count-at-requires
 count-at-requires c κs = known c.before.before.before.before.before

@@ -5,8 +5,7 @@ use Rattle.model.specs.declared.Answer.TheVariants.{Accepted, Refused}
 use Rattle.model.specs.declared.Player.{Player}
 use Rattle.model.specs.Answers.{Verdict, accepted, refused, values, ◌then◌, each, require}
 use Rattle.model.specs.Check.{word_is, check, check_header, check_parent, check_clip, check_node, check_transition, check_state}
-use Rattle.model.specs.Controller.{play_verdict, frame_verdict}
-use Rattle.model.specs.CloseUp.{close_up_verdict}
+use Rattle.model.specs.Controller.{frame_verdict}
 use Rattle.model.specs.Loops.{loops_verdict}
 
 pub record Answerable (v : Verdict) : Type 0 where
@@ -80,17 +79,10 @@ module _ (plan : List ℕ) where
       (require_answerable _ _ _))
       (require_answerable _ _ _)
 
-  play_answerable : (numbers : List Float) (p : Player) → Answerable (play_verdict plan numbers p)
-  play_answerable numbers p = then_answerable (check_answerable (length numbers)) (require_answerable _ _ _)
-
   pub frame_answerable : (numbers : List Float) (p : Player) (n : ℕ) → Answerable (frame_verdict plan numbers p n)
   unfolding frame_verdict
-  frame_answerable numbers p n = then_answerable (play_answerable numbers p) (require_answerable _ _ _)
-
-  pub close_up_answerable : (numbers : List Float) (p : Player) (j : ℕ) → Answerable (close_up_verdict plan numbers p j)
-  unfolding close_up_verdict
-  close_up_answerable numbers p j = then_answerable (play_answerable numbers p) (require_answerable _ _ _)
+  frame_answerable numbers p n = then_answerable (then_answerable (check_answerable (length numbers)) (require_answerable _ _ _)) (require_answerable _ _ _)
 
   pub loops_answerable : (numbers : List Float) (p : Player) (s n : ℕ) → Answerable (loops_verdict plan numbers p s n)
   unfolding loops_verdict
-  loops_answerable numbers p s n = then_answerable (then_answerable (play_answerable numbers p) (require_answerable _ _ _)) (require_answerable _ _ _)
+  loops_answerable numbers p s n = then_answerable (then_answerable (then_answerable (check_answerable (length numbers)) (require_answerable _ _ _)) (require_answerable _ _ _)) (require_answerable _ _ _)

@@ -1,9 +1,8 @@
 -- Choices and lists that agree where it matters: nothing here is about figures.
-use Rattle.std.specs.Prelude.{ℕ, ◌<◌, ◌≡◌, refl, Bool, true, false, cond, length, get_or, set, eqb}
-use Rattle.std.proofs.Common.{arith, sym, ap, ◌∙◌, length-set, eqb-true, get_or-set_same, get_or-set_other}
+use Rattle.std.specs.Prelude.{ℕ, ◌<◌, ◌≡◌, refl, Bool, true, false, cond, length, get_or, set}
+use Rattle.std.proofs.Common.{arith, sym, ap, ◌∙◌, length-set, get_or-set_same, get_or-set_other}
 use Rattle.std.proofs.Math.Decide.{ℕ_discrete, dec_lt}
 use mathlib.Core.List.{List, [], ◌∷◌, map, Memᴰ}
-use Rattle.model.specs.Run.{shown_among}
 use Rattle.std.proofs.Math.Seq.{set_out}
 
 -- related case by case
@@ -39,17 +38,6 @@ module _ {A : Type 0} {d : A} {R : ℕ → Type 0} {l m : List A} (h : SameAt d 
 
   pub same_set : SameAt d R (set l i v) (set m i w)
   same_set = record { lengths = length-set l i v ∙ h.lengths ∙ sym (length-set m i w); at = λ k r. set_at k (ℕ_discrete k i) r }
-
--- the one that is looked for, among some
-pub among_is : (chosen : List ℕ) (j k : ℕ) → Memᴰ k (shown_among chosen j) → (k ≡ j) × Memᴰ k chosen
-unfolding shown_among
-among_is (i ∷ chosen) j k m = go (eqb i j) refl m (among_is chosen j k)
-  where
-    go : (t : Bool) → eqb i j ≡ t → Memᴰ k (cond t (i ∷ shown_among chosen j) (shown_among chosen j)) → (Memᴰ k (shown_among chosen j) → (k ≡ j) × Memᴰ k chosen)
-        → (k ≡ j) × Memᴰ k (i ∷ chosen)
-    go true e (Memᴰ.head f) later = (f ∙ eqb-true i j e, Memᴰ.head f)
-    go true e (Memᴰ.tail l) later = let x = later l in (x.0, Memᴰ.tail x.1)
-    go false e l later = let x = later l in (x.0, Memᴰ.tail x.1)
 
 -- a map over members
 pub map_same : {A B : Type 0} (f g : A → B) (l : List A) → ((a : A) → Memᴰ a l → f a ≡ g a) → map f l ≡ map g l

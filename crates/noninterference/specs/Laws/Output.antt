@@ -1,7 +1,6 @@
 -- A trace of calls that keep their promises shows what the run by definition shows.
-use Prim.Native.Nat.{ℕ}
+use Rattle.std.specs.Prelude.{ℕ, ◌≡◌, length, get_or, take, drop, Float}
 use Rattle.std.proofs.Common.{arith, ◌∙◌}
-use Rattle.std.specs.Prelude.{◌≡◌, length, get_or, take, drop, Float}
 use Rattle.std.proofs.Math.Path.{refl, sym, ap, ap₂}
 use mathlib.Core.List.{List, [], ◌∷◌, map}
 use Rattle.model.specs.declared.Player.{Player}
@@ -12,39 +11,29 @@ use Rattle.model.specs.declared.LoopCount.{LoopCount}
 use Rattle.model.specs.Answers.{Verdict, accepted, refused, values, unless_refused}
 use Rattle.model.specs.Plan.{output_at}
 use Rattle.model.specs.Controller.{blank, fresh, frame_verdict}
-use Rattle.model.specs.CloseUp.{close_up_verdict}
 use Rattle.model.specs.Loops.{loops_verdict}
 use Rattle.model.specs.Skeleton.{written}
-use Rattle.model.specs.Run.{start_verdict, start_player, frame_matrices, close_up_matrix, Call, Loops, call_verdict, changed, after, shown_among, chosen_floats, told, Observation, observation, run_from, run}
+use Rattle.model.specs.Run.{start_verdict, start_player, frame_matrices, Call, Loops, call_verdict, changed, after, chosen_floats, told, Observation, observation, run_from, run}
 use Rattle.model.specs.Promises.{Updated, SpeedSet, ParameterSet, Framed, LoopsCounted}
 use Rattle.model.specs.Laws.Answers.{unless_same}
 use Rattle.model.specs.Laws.Output.{matrix_at_lem, frame_length}
 use Rattle.noninterference.specs.Alike.{Closed}
-use Rattle.noninterference.specs.Trace.{Event, Trace, end, update, set_speed, set_parameter, frame, close_up, ask_loops, Session, calls, output_floats, observed, of_reachable, told_in}
-use Rattle.noninterference.specs.Laws.Lists.{among_is, map_same}
+use Rattle.noninterference.specs.Trace.{Event, Trace, end, update, set_speed, set_parameter, frame, ask_loops, Session, calls, output_floats, observed, of_reachable, told_in}
+use Rattle.noninterference.specs.Laws.Lists.{map_same}
 
 module _ (plan chosen : List ℕ) (numbers : List Float) (closed : Closed plan chosen) where
   frame_floats : (p : Player) (ext : Float) (kind : FrameKind) (old : List Float)
-      → map {B = ℕ × List Float} (λ j. (j, take 16 (drop (output_at j) (written plan (frame_matrices plan numbers p ext kind) old)))) chosen ≡ map (λ j. (j, floats (get_or (frame_matrices plan numbers p ext kind) j identity_matrix))) chosen
+      → map (λ j. take 16 (drop (output_at j) (written plan (frame_matrices plan numbers p ext kind) old))) chosen ≡ map (λ j. floats (get_or (frame_matrices plan numbers p ext kind) j identity_matrix)) chosen
   unfolding written
-  frame_floats p ext kind old = map_same _ _ chosen (λ j m. ap (λ (x : List Float). (j, x)) (matrix_at_lem (frame_matrices plan numbers p ext kind) _ j (omega (arith, frame_length plan numbers p ext kind, closed.are_joints j m))))
+  frame_floats p ext kind old = map_same _ _ chosen (λ j m. matrix_at_lem (frame_matrices plan numbers p ext kind) _ j (omega (arith, frame_length plan numbers p ext kind, closed.are_joints j m)))
 
   -- an accepted frame's are read from the output; a refused one shows none
   frame_observed : (v : Verdict) (p q : Player) (ext : Float) (kind : FrameKind) (old : List Float)
-      → observation v q (map (λ j. (j, take 16 (drop (output_at j) (unless_refused v (written plan (frame_matrices plan numbers p ext kind) old) old)))) chosen)
-      ≡ observation v q (map (λ j. (j, floats (get_or (frame_matrices plan numbers p ext kind) j identity_matrix))) chosen)
+      → observation v q (map (λ j. take 16 (drop (output_at j) (unless_refused v (written plan (frame_matrices plan numbers p ext kind) old) old))) chosen)
+      ≡ observation v q (map (λ j. floats (get_or (frame_matrices plan numbers p ext kind) j identity_matrix)) chosen)
   unfolding unless_refused observation
   frame_observed accepted p q ext kind old = rw (frame_floats p ext kind old)
   frame_observed (refused n at r) p q ext kind old = refl
-
-  -- a close-up's are its own floats, where its joint is chosen
-  close_up_observed : (v : Verdict) (p q : Player) (ext : Float) (j : ℕ) (zeros : List Float)
-      → observation v q (map (λ k. (k, unless_refused v (floats (close_up_matrix plan numbers p ext j)) zeros)) (shown_among chosen j))
-      ≡ observation v q (map (λ k. (k, floats (close_up_matrix plan numbers p ext k))) (shown_among chosen j))
-  unfolding unless_refused observation
-  close_up_observed accepted p q ext j zeros =
-      rw (map_same {B = ℕ × List Float} (λ k. (k, floats (close_up_matrix plan numbers p ext j))) (λ k. (k, floats (close_up_matrix plan numbers p ext k))) (shown_among chosen j) (λ k m. rw (among_is chosen j k m).0))
-  close_up_observed (refused n at r) p q ext j zeros = refl
 
   -- ---- each event agrees with the definitions
 
@@ -79,8 +68,6 @@ module _ (plan chosen : List ℕ) (numbers : List Float) (closed : Closed plan c
         defined = record { answer = c.answer; player = c.player; matrices = λ q. rw c.output (frame_observed (frame_verdict plan numbers p (length old)) p q ext kind old); counts = refl };
         later = t;
       }
-  first (close_up {p = p} ext j c t) =
-      record { defined = record { answer = c.answer; player = c.player; matrices = λ q. rw c.matrix (close_up_observed (close_up_verdict plan numbers p j) p q ext j _); counts = refl }; later = t }
   first (ask_loops {p = p} s n time c t) =
       let v = loops_verdict plan numbers p s n in
       record {

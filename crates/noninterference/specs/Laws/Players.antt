@@ -13,7 +13,6 @@ use Rattle.model.specs.declared.Transition.TheVariants.{Idle, Running}
 use Rattle.model.specs.declared.Winner.{Winner}
 use Rattle.model.specs.declared.Winner.TheVariants.{At, Nothing}
 use Rattle.model.specs.declared.FrameKind.{FrameKind}
-use Rattle.model.specs.declared.FrameKind.TheVariants.{Ordinary}
 use Rattle.model.specs.Numbers.{0f}
 use Rattle.model.specs.Rotations.{identity_matrix, product, floats}
 use Rattle.model.specs.Pose.{to_matrix}
@@ -22,18 +21,16 @@ use Rattle.model.specs.Plan.{max_parameters, joint_count, state_count, parent, i
 use Rattle.model.specs.Check.{check}
 use Rattle.model.specs.Controller.{blank, synchronize_states, fresh, frame_verdict, now_at, is_ended, condition_holds, first_passing, winner, started_by, step_from, stepped, elapsed, current_instances, target_instances, instances_in, synchronized, current_pose, target_pose, pose_in, joint_pose}
 use Rattle.model.specs.Tree.{state_pose}
-use Rattle.model.specs.CloseUp.{close_up_verdict}
 use Rattle.model.specs.Loops.{loops_verdict}
 use Rattle.model.specs.Skeleton.{own_matrix, parent_matrix, joint_matrix, joint_matrices}
-use Rattle.model.specs.Run.{frame_pose, frame_player, frame_matrices, close_up_matrix, Call, call_verdict, changed, after, shown_among, chosen_floats, observation, run_from}
+use Rattle.model.specs.Run.{frame_player, frame_matrices, Call, call_verdict, changed, after, chosen_floats, observation, run_from}
 use Rattle.model.specs.Unseen.{Reachable, initial, target, Read, by_condition}
-use Rattle.model.specs.Laws.CloseUp.{matrix_by_chain}
 use Rattle.model.specs.Laws.Passed.{parent_earlier, reachable_below}
 use Rattle.model.specs.Laws.Reached.{read_marked}
 use Rattle.model.specs.Laws.Table.{table_at}
 use Rattle.model.specs.Table.{table_to}
-use Rattle.noninterference.specs.Alike.{Closed, AlikeNumbers, AlikeCall, updates, speeds, sets, frames, close_ups, questions, AlikeCalls, none, next}
-use Rattle.noninterference.specs.Laws.Lists.{cond_both, cond_same, cond_has, SameAt, same_refl, same_set, among_is, map_same}
+use Rattle.noninterference.specs.Alike.{Closed, AlikeNumbers, AlikeCall, updates, speeds, sets, frames, questions, AlikeCalls, none, next}
+use Rattle.noninterference.specs.Laws.Lists.{cond_both, cond_same, cond_has, SameAt, same_refl, same_set, map_same}
 use Rattle.noninterference.specs.Laws.Numbers.{value_same, transition_duration_same}
 use Rattle.noninterference.specs.Laws.Trees.{SameInstances, synchronized_same, pose_same}
 
@@ -228,16 +225,14 @@ module _ (plan chosen : List ℕ) (a b : List Float) (ok : check plan (length a)
     changed_equivalent (sets n v w e) =
         record { clock = h.clock; speed = h.speed; state = h.state; transition = h.transition; reachable = h.reachable; target = h.target; parameters = same_set h.parameters n v w (λ r. e (read_marked plan (length a) ok r)); instances = h.instances }
     changed_equivalent (frames kind ext len) = frame_equivalent ext
-    changed_equivalent (close_ups ext j) = frame_equivalent ext
     changed_equivalent (questions s n time) = h
 
     pub verdict_same : {c d : Call} → AlikeCall plan c d → call_verdict plan a p c ≡ call_verdict plan b q d
-    unfolding call_verdict frame_verdict close_up_verdict loops_verdict
+    unfolding call_verdict frame_verdict loops_verdict
     verdict_same (updates delta) = refl
     verdict_same (speeds v) = refl
     verdict_same (sets n v w e) = refl
     verdict_same (frames kind ext len) = rw (alike.lengths, h.state, h.transition)
-    verdict_same (close_ups ext j) = rw (alike.lengths, h.state, h.transition)
     verdict_same (questions s n time) = rw (alike.lengths, h.state, h.transition)
 
     unless_equivalent : (x : Verdict) (u v : Player) → LowEquivalent plan u v → LowEquivalent plan (unless_refused x u p) (unless_refused x v q)
@@ -252,24 +247,15 @@ module _ (plan chosen : List ℕ) (a b : List Float) (ok : check plan (length a)
     frame_matrix : (kind : FrameKind) (ext : Float) (j : ℕ) → Memᴰ j chosen → get_or (frame_matrices plan a p ext kind) j identity_matrix ≡ get_or (frame_matrices plan b q ext kind) j identity_matrix
     unfolding frame_matrices
     frame_matrix kind ext j m =
-        rw (now_same ext, frame_pose, elapsed_same ext)
+        rw (now_same ext, elapsed_same ext)
         (matrices_same kind plan chosen (length a) ok closed _ _ (joint_same (elapsed q ext) _ _ (stepped_equivalent p q h (now_at q ext)) (now_at q ext)) (joint_count plan) identity_matrix j (closed.are_joints j m) m)
-
-    -- a close-up's is the frame's
-    close_up_matrix_lem : (ext : Float) (j : ℕ) → Memᴰ j chosen → close_up_matrix plan a p ext j ≡ close_up_matrix plan b q ext j
-    unfolding close_up_matrix frame_matrices
-    close_up_matrix_lem ext j m =
-        let there : j < joint_count plan = closed.are_joints j m in
-        let passed : check plan (length b) ≡ accepted = rw alike.lengths at ok in
-        sym (matrix_by_chain plan (length a) ok _ j there) ∙ frame_matrix Ordinary ext j m ∙ matrix_by_chain plan (length b) passed _ j there
 
     floats_same : {c d : Call} → AlikeCall plan c d → chosen_floats plan a chosen p c ≡ chosen_floats plan b chosen q d
     unfolding chosen_floats
     floats_same (updates delta) = refl
     floats_same (speeds v) = refl
     floats_same (sets n v w e) = refl
-    floats_same (frames kind ext len) = map_same _ _ chosen (λ j m. ap (λ (x : Matrix4). (j, floats x)) (frame_matrix kind ext j m))
-    floats_same (close_ups ext j) = map_same _ _ (shown_among chosen j) (λ k m. ap (λ (x : Matrix4). (k, floats x)) (close_up_matrix_lem ext k (among_is chosen j k m).1))
+    floats_same (frames kind ext len) = map_same _ _ chosen (λ j m. ap floats (frame_matrix kind ext j m))
     floats_same (questions s n time) = refl
 
     observation_same : {c d : Call} → AlikeCall plan c d

@@ -18,7 +18,7 @@ unfolding shown_pose
 returns c =
     let d = c.before.before in
     let m = d.before.before.before.before.before.before in
-    shown_idle _ _ _ _ _ _ _ _ _ _ (is_idle _ m.match.keys2) (record { instances = m.before.synchronize-state.ensures.1; output = d.show-blocks.ensures })
+    shown_idle _ _ _ _ _ _ _ _ _ _ _ _ (is_idle _ m.match.keys2) (record { instances = m.before.synchronize-state.ensures.1; output = d.show-blocks.ensures })
 
 show-transition-requires : tie.Need-show-transition-requires
 show-transition-requires c κs =
@@ -32,7 +32,7 @@ returns-2 c =
     let d = c.before.before in
     let f = d.before.before.before.before in
     let t = f.before.before in
-    shown_running _ _ _ _ _ _ _ _ _ _ _ _ _ _ _ t.transition.given.1 f.transition-factor.ensures t.before.before.synchronize-state.ensures.1 d.show-transition.ensures
+    shown_running _ _ _ _ _ _ _ _ _ _ _ _ _ _ _ _ _ t.transition.given.1 f.transition-factor.ensures t.before.before.synchronize-state.ensures.1 d.show-transition.ensures
 
 pub show-spec : {M : Type 1} → statement M
 show-spec =

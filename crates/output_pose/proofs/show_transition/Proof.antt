@@ -13,7 +13,7 @@ show-blocks-requires c κs =
 returns : tie.Need-returns
 returns c =
     let d = c.before.before in
-    blended_to _ d.before.before.before.before.before.synchronize-target.ensures d.show-blocks.ensures
+    blended_to d.before.before.before.before.before.synchronize-target.ensures d.show-blocks.ensures
 
 pub show-transition-spec : {M : Type 1} → statement M
 show-transition-spec = tie.close (tie.spec (λ c κs. search rules) show-blocks-requires (search rules) returns)

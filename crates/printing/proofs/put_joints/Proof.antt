@@ -1,13 +1,10 @@
 -- `printing::put_joints` meets its contract: after j turns the first j lines are written. Assumes nothing.
-use Prim.Native.Nat.{ℕ, ◌+◌, ◌*◌, ◌-◌, ◌≤◌}
+use Prim.Native.Nat.{◌+◌, ◌*◌, ◌-◌, ◌≤◌}
 use mathlib.Core.Path.{◌≡◌}
 use native.Mathlib.Omega.{arith}
-use lib.ListN.{drop, length-drop}
-use lib.Seq.{length-take-le}
-use Rattle.model.specs.Plan.{output_at}
 use Rattle.model.specs.Program.{joined}
 use Rattle.printing.specs.Written.{WrittenUpTo, joint_lines}
-use Rattle.printing.specs.Sizes.{matrix_floats, joint_size}
+use Rattle.printing.specs.Sizes.{joint_size}
 use Rattle.printing.proofs.Laws.{nothing_written, length_written, next_line}
 use Rattle.printing.proofs.put_joints.Statement.{statement}
 use Rattle.printing.proofs.put_joints.Tie as tie
@@ -23,26 +20,14 @@ loop-holds : tie.Need-loop-init invariant-loop decreases-loop
 unfolding joined
 loop-holds c = (omega arith, (nothing_written _ _, omega arith))
 
--- how many floats are lent
-lent : (j : ℕ) → output_at j + matrix_floats - output_at j ≡ matrix_floats
-lent j = omega arith
-
 put-joint-requires : tie.Need-put-joint-requires invariant-loop decreases-loop
-put-joint-requires c κs =
-    let l = c.before.before.before in
-    let from = output_at l.loop.j in
-    let output = l.before.before.before.args.output.now in
-    let there = length-drop from output in (
-      omega arith,
-      omega (arith, length_written l.loop.invariant.1.0),
-      rw (lent l.loop.j) (length-take-le matrix_floats (drop from output) (omega arith)),
-    )
+put-joint-requires c κs = (omega arith, omega (arith, length_written c.before.before.loop.invariant.1.0), omega arith)
 
 loop-again : tie.Need-loop-preserved invariant-loop decreases-loop
 loop-again c =
     let w = c.before.before.put-joint.ensures in
-    let l = c.before.before.before.before.before.before.loop in
-    (omega arith, (next_line l.j _ l.invariant.1.0 (rw (lent l.j) at w.0), omega arith))
+    let l = c.before.before.before.before.before.loop in
+    (omega arith, (next_line l.j _ l.invariant.1.0 w.0, omega arith))
 
 returns : tie.Need-returns invariant-loop decreases-loop
 returns c =
@@ -58,12 +43,6 @@ put-joints-spec =
     invariant-loop
     decreases-loop
     loop-holds
-    (omega arith)
-    (omega arith)
-    (omega arith)
-    (omega arith)
-    (omega arith)
-    (omega arith)
     put-joint-requires
     (omega arith)
     (omega arith)

@@ -8,7 +8,7 @@ use Rattle.model.specs.Run.{call_verdict, changed, after, chosen_floats, told}
 use Rattle.calls.specs.Read.{line_of}
 use Rattle.report.specs.Report.{told_values}
 use Rattle.model.specs.Laws.Answers.{unless_same}
-use Rattle.replay_core.proofs.Laws.{nothing_done, called, malformed_called}
+use Rattle.replay_core.proofs.Laws.{nothing_done, loops_done_lem, called, malformed_called}
 use Rattle.replay_core.proofs.call_done.Statement.{statement}
 use Rattle.replay_core.proofs.call_done.Tie as tie
 
@@ -54,18 +54,11 @@ returns-5 c =
 returns-6 : tie.Need-returns-6
 unfolding line_of
 returns-6 c =
-    let j = c.before.before in
-    let t = j.before.before.before.call5.given in
-    let k = Run.Joint t.0.0 t.0.1.0 in
-    let done = j.joint_done.ensures in
-    (called _ _ _ _ _ _ _ k t.1 (λ s. refl) done.0, done.1)
-
-returns-7 : tie.Need-returns-7
-unfolding line_of
-returns-7 c =
-    let t = c.before.before.call6.given in
+    let l = c.before.before in
+    let t = l.before.before.call5.given in
     let k = Run.Loops t.0.0 t.0.1.0 t.0.1.1.0 in
-    (called _ _ _ _ _ _ _ k t.1 (λ s. refl) (c.loops_done.ensures _), search rules)
+    let done = loops_done_lem _ _ _ _ _ _ _ l.loops.ensures c.before.told_of.ensures c.done2.ensures in
+    (called _ _ _ _ _ _ _ k t.1 (λ s. refl) done, search rules)
 
 pub call-done-spec : {M : Type 1} → statement M
 call-done-spec =
@@ -94,6 +87,4 @@ call-done-spec =
     returns-4
     (search rules)
     returns-5
-    (search rules)
-    returns-6
-    returns-7)
+    returns-6)

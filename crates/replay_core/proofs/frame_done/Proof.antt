@@ -2,7 +2,7 @@
 -- in the front of the floats. Assumes nothing.
 use Prim.Native.Nat.{◌≤◌}
 use native.Mathlib.Omega.{arith}
-use mathlib.Core.Path.{◌≡◌, sym}
+use mathlib.Core.Path.{◌≡◌, refl, sym}
 use mathlib.Core.Logic.{◌⊎◌, inl, inr, ⊎_elim}
 use lib.ListN.{length, take}
 use lib.Seq.{length-take-le}
@@ -32,7 +32,7 @@ returns c =
     let t = c.before in
     let f = t.before.before.before.before in
     let same = frame_room _ _ _ _ _ (room_as f.before) in (
-      frame_refused _ _ _ _ _ _ _ _ f.frame-of.ensures _ same _ _ t.enum-told2.given.1 c.done.ensures,
+      frame_refused _ _ _ _ _ _ _ _ f.frame-of.ensures _ same _ _ _ t.enum-told2.given.1 c.done.ensures,
       search rules,
     )
 
@@ -42,7 +42,7 @@ returns-2 c =
     let f = t.before.before.before.before in
     let e = t.enum_told.given.1 in
     let same = frame_room _ _ _ _ _ (room_as f.before) in (
-      frame_done_lem _ _ _ _ _ _ _ _ f.frame-of.ensures _ same _ e c.word.ensures.0,
+      frame_done_lem _ _ _ _ _ _ _ _ f.frame-of.ensures _ same _ _ e (sym e) refl c.word.ensures.0 refl,
       search rules,
     )
 

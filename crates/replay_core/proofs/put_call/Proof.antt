@@ -14,7 +14,7 @@ returns c =
     let p = j.before.before.before.before in
     let a = p.before.before.before.before in
     let put = more_written a.put-answer.ensures.0 p.put-player.ensures.0 in
-    let shown = more_written put j.put-shown.ensures.0 in
+    let shown = more_written put j.put-joints.ensures.0 in
     (more_written shown t.put-told.ensures.0, omega arith)
 
 pub put-call-spec : {M : Type 1} → statement M

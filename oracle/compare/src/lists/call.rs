@@ -14,8 +14,6 @@ pub enum Call {
     /// Ext and output length.
     Frame(u64, usize),
     Page(u64, usize),
-    /// Ext and joint: a close-up.
-    Joint(u64, usize),
     /// State, node and time.
     Loops(usize, usize, u32),
 }
@@ -41,10 +39,6 @@ impl Call {
         Call::Page(ext.to_bits(), length)
     }
 
-    pub fn joint(ext: f64, joint: usize) -> Call {
-        Call::Joint(ext.to_bits(), joint)
-    }
-
     pub fn loops(state: usize, node: usize, time: f32) -> Call {
         Call::Loops(state, node, time.to_bits())
     }
@@ -57,7 +51,6 @@ impl Call {
             Call::Set(parameter, value) => format!("set,{parameter},{value:08x}\n"),
             Call::Frame(ext, length) => format!("frame,{ext:016x},{length}\n"),
             Call::Page(ext, length) => format!("page,{ext:016x},{length}\n"),
-            Call::Joint(ext, joint) => format!("joint,{ext:016x},{joint}\n"),
             Call::Loops(state, node, time) => format!("loops,{state},{node},{time:08x}\n"),
         }
     }
@@ -67,8 +60,7 @@ impl Call {
         let is_short = |number: usize| number <= usize::from(u16::MAX);
         match self {
             Call::Update(_) | Call::Speed(_) => true,
-            Call::Set(number, _) => is_short(number),
-            Call::Frame(_, number) | Call::Page(_, number) | Call::Joint(_, number) => {
+            Call::Set(number, _) | Call::Frame(_, number) | Call::Page(_, number) => {
                 is_short(number)
             }
             Call::Loops(state, node, _) => is_short(state) && is_short(node),
@@ -99,7 +91,6 @@ fn parsed_line(line: &[u8]) -> Option<Call> {
         [b"set", parameter, value] => Call::Set(number(parameter)?, float(value)?),
         [b"frame", ext, length] => Call::Frame(double(ext)?, number(length)?),
         [b"page", ext, length] => Call::Page(double(ext)?, number(length)?),
-        [b"joint", ext, joint] => Call::Joint(double(ext)?, number(joint)?),
         [b"loops", state, node, time] => Call::Loops(number(state)?, number(node)?, float(time)?),
         _ => return None,
     })
@@ -118,8 +109,6 @@ mod tests {
             (Call::set(31, 1.0), "set,31,3f800000\n"),
             (Call::frame(0.0, 16), "frame,0000000000000000,16\n"),
             (Call::page(2.0, 65535), "page,4000000000000000,65535\n"),
-            (Call::joint(0.5, 0), "joint,3fe0000000000000,0\n"),
-            (Call::joint(-0.0, 65535), "joint,8000000000000000,65535\n"),
             (Call::loops(0, 30, -0.5), "loops,0,30,bf000000\n"),
             (Call::loops(65535, 0, 0.0), "loops,65535,0,00000000\n"),
         ];
@@ -133,7 +122,7 @@ mod tests {
     }
 
     /// Words, lengths, digits and ends that a line must not have.
-    const MALFORMED: [&str; 63] = [
+    const MALFORMED: [&str; 46] = [
         "\n",
         "update\n",
         "update,\n",
@@ -158,24 +147,6 @@ mod tests {
         "frame,0000000000000000,016\n",
         "frame,0000000000000000,65536\n",
         "page,16,0000000000000000\n",
-        "joint\n",
-        "joint,255\n",
-        "joint,0000000000000000\n",
-        "joint,0000000000000000,\n",
-        "joint,000000000000000,0\n",
-        "joint,00000000000000000,0\n",
-        "joint,00000000,0\n",
-        "joint,3FF0000000000000,0\n",
-        "joint,0000000000000000,00\n",
-        "joint,0000000000000000,01\n",
-        "joint,0000000000000000,65536\n",
-        "joint,0000000000000000,-1\n",
-        "joint,0,0000000000000000\n",
-        "joint,,0\n",
-        "joint,0000000000000000,0,0\n",
-        "joint,0000000000000000,0\r\n",
-        "joint,0000000000000000,0",
-        "joints,0000000000000000,0\n",
         "loops\n",
         "loops,0,0\n",
         "loops,0,00000000\n",
@@ -197,6 +168,7 @@ mod tests {
         "loops,0,0,00000000",
         "loop,0,0,00000000\n",
         "Loops,0,0,00000000\n",
+        "joint,255\n",
     ];
 
     #[test]
@@ -223,7 +195,6 @@ mod tests {
                 Call::Set(number, bits as u32),
                 Call::Frame(bits, number),
                 Call::Page(bits, number),
-                Call::Joint(bits, number),
                 Call::Loops(number, 65535 - number, bits as u32),
             ] {
                 assert!(call.has_text());
@@ -232,7 +203,6 @@ mod tests {
         }
         assert!(!Call::frame(0.0, 65536).has_text());
         assert!(!Call::set(65536, 0.0).has_text());
-        assert!(!Call::joint(0.0, 65536).has_text());
         assert!(!Call::loops(65536, 0, 0.0).has_text());
         assert!(!Call::loops(0, 65536, 0.0).has_text());
     }

@@ -142,19 +142,13 @@ fn loops(generator: &mut Generator, draft: &Draft) -> Call {
     Call::Loops(state, node, time(generator))
 }
 
-fn close_up(generator: &mut Generator, draft: &Draft, calls: Calls) -> Call {
-    let joint = number(generator, draft.parents.len());
-    Call::Joint(double(generator, calls), joint)
-}
-
 pub fn call(generator: &mut Generator, draft: &Draft, calls: Calls) -> Call {
-    match generator.below(16) {
+    match generator.below(14) {
         0..=2 => Call::Update(double(generator, calls)),
         3 => Call::Speed(double(generator, calls)),
         4 | 5 => Call::Set(parameter(generator, draft), value(generator, draft)),
         6 | 7 => Call::Page(double(generator, calls), length(generator, draft)),
         8 | 9 => loops(generator, draft),
-        10 | 11 => close_up(generator, draft, calls),
         _ => Call::Frame(double(generator, calls), length(generator, draft)),
     }
 }

@@ -140,7 +140,6 @@ mod tests {
             "refused,10,0",
             "refused,11,",
             "refused,13,65536",
-            "refused,15,0",
             "refused,16,0",
             "refused,17,0",
         ];

@@ -34,8 +34,6 @@ pub enum Output {
     Nothing,
     /// Each joint's.
     Matrices(Vec<Matrix4<f32>>),
-    /// One joint's.
-    CloseUp(usize, Matrix4<f32>),
     Loops(Played),
 }
 
@@ -44,7 +42,6 @@ impl Output {
         match self {
             Output::Nothing => String::new(),
             Output::Matrices(matrices) => matrices.iter().enumerate().map(joint_line).collect(),
-            Output::CloseUp(joint, matrix) => joint_line((*joint, matrix)),
             Output::Loops(Played { loops, rest }) => format!("loops,{loops},{rest}\n"),
         }
     }
@@ -62,10 +59,6 @@ pub fn done(player: &mut Reference, call: Call) -> Result<Output, Refusal> {
         Call::Page(ext, length) => {
             let matrices = player.page_frame(f64::from_bits(ext), length)?;
             return Ok(Output::Matrices(matrices));
-        }
-        Call::Joint(ext, joint) => {
-            let matrix = player.close_up(f64::from_bits(ext), joint)?;
-            return Ok(Output::CloseUp(joint, matrix));
         }
         Call::Loops(state, node, time) => {
             let played = player.loops(state, node, f32::from_bits(time))?;
@@ -201,20 +194,6 @@ mod tests {
         assert!(lines[14].starts_with("parameters,"));
     }
 
-    /// In BLEND a close-up begins the transition as a frame would.
-    #[test]
-    fn a_close_up_has_one_line() {
-        let frame = lines(&[Call::frame(0.25, 16)]);
-        let close_up = lines(&[Call::joint(0.25, 0), Call::joint(0.25, 1)]);
-        let begun =
-            "player,0000000000000000,3ff0000000000000,0,running,3fd0000000000000,1,3f000000";
-        assert_eq!(close_up[2..5], frame[2..5]);
-        assert_eq!(close_up[3], begun);
-        assert!(close_up[4].starts_with("joint,0,"));
-        assert_eq!(close_up[5..7], ["refused,15,0", begun]);
-        assert_eq!(close_up[7..], frame[5..]);
-    }
-
     #[test]
     fn after_a_refused_start_the_blank_player_goes_on() {
         let refused = BLEND.replace("joint,255", "joint,0");
@@ -224,7 +203,6 @@ mod tests {
             Call::set(32, 1.0),
             Call::frame(0.0, 16),
             Call::loops(0, 0, 0.0),
-            Call::joint(0.0, 1),
         ];
         let report = report(refused.as_bytes(), text(&calls).as_bytes());
         let lines: Vec<&str> = report.lines().collect();
@@ -239,12 +217,10 @@ mod tests {
             "refused,3,5",
             moved,
             "refused,3,5",
-            moved,
-            "refused,3,5",
         ];
         assert_eq!(lines[0], "refused,3,5");
-        assert_eq!(lines[2..13], expected);
-        assert!(lines[14].ends_with(",bf800000"));
-        assert_eq!(lines[16], "instance,1,00000000,3f800000,00000000");
+        assert_eq!(lines[2..11], expected);
+        assert!(lines[12].ends_with(",bf800000"));
+        assert_eq!(lines[14], "instance,1,00000000,3f800000,00000000");
     }
 }

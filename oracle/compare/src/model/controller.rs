@@ -65,19 +65,13 @@ fn holds(operator: u16, parameter: f32, value: f32) -> bool {
     }
 }
 
-/// The pose of each of these joints, where the step of this frame is done. Both states are synchronised,
-/// whatever the joints are.
-pub fn poses(figure: &Checked, player: &mut Player, ext: f64, joints: &[usize]) -> Vec<Pose> {
+/// The pose of each joint, where the step of this frame is done.
+pub fn poses(figure: &Checked, player: &mut Player, ext: f64) -> Vec<Pose> {
     let now = player.clock + ext;
     let time = (player.clock + ext * player.speed) as f32;
-    let state = |state: usize| Tree {
-        figure,
-        state,
-        time,
-    };
-    let mut poses = state_poses(state(player.state), player, joints);
+    let mut poses = state_poses(figure, player, player.state, time);
     if let Some(running) = player.transition {
-        let targets = state_poses(state(running.target), player, joints);
+        let targets = state_poses(figure, player, running.target, time);
         let factor = ((now - running.start) / f64::from(running.duration)) as f32;
         for (pose, target) in poses.iter_mut().zip(targets) {
             *pose = pose.lerp(target, factor);
@@ -86,8 +80,13 @@ pub fn poses(figure: &Checked, player: &mut Player, ext: f64, joints: &[usize]) 
     poses
 }
 
-fn state_poses(tree: Tree, player: &mut Player, joints: &[usize]) -> Vec<Pose> {
+fn state_poses(figure: &Checked, player: &mut Player, state: usize, time: f32) -> Vec<Pose> {
+    let tree = Tree {
+        figure,
+        state,
+        time,
+    };
     tree.synchronise(player);
-    let joints = joints.iter();
-    joints.map(|&joint| tree.pose(player, joint)).collect()
+    let joints = 0..figure.joints();
+    joints.map(|joint| tree.pose(player, joint)).collect()
 }

@@ -3,7 +3,6 @@
 //! the Rust (`reference`). The plan check is the one that the Rust's player here uses as well.
 
 pub mod clip;
-pub mod close_up;
 mod controller;
 pub mod figure;
 pub mod loops;
@@ -98,8 +97,7 @@ impl Model {
         }
         let now = player.clock + ext;
         controller::step(figure, player, now);
-        let all: Vec<usize> = (0..figure.joints()).collect();
-        let poses = controller::poses(figure, player, ext, &all);
+        let poses = controller::poses(figure, player, ext);
         Ok(poses.iter().map(|pose| pose.matrix()).collect())
     }
 }
@@ -122,8 +120,6 @@ fn refused<T>(number: u8) -> Result<T, Refusal> {
     Err(Refusal { number, place: 0 })
 }
 
-#[cfg(test)]
-mod close_up_tests;
 #[cfg(test)]
 mod joint_tests;
 #[cfg(test)]

@@ -146,7 +146,7 @@ fn elsewhere_endings_are_not_seen() {
     assert_eq!(shown(&looping, 2.0), shown(&stopping, 2.0));
 }
 
-/// The call's answer, and what a frame or a close-up shows.
+/// The call's answer, and what a frame shows.
 pub fn done(model: &mut Model, call: Call) -> Result<Vec<Matrix>, Refusal> {
     match call {
         Call::Update(delta) => model.update(f64::from_bits(delta)),
@@ -154,10 +154,6 @@ pub fn done(model: &mut Model, call: Call) -> Result<Vec<Matrix>, Refusal> {
         Call::Set(parameter, value) => model.set(parameter, f32::from_bits(value))?,
         Call::Frame(ext, length) => return model.frame(f64::from_bits(ext), length),
         Call::Page(ext, length) => return model.page_frame(f64::from_bits(ext), length),
-        Call::Joint(ext, joint) => {
-            let shown = model.close_up(f64::from_bits(ext), joint);
-            return shown.map(|matrix| vec![matrix]);
-        }
         Call::Loops(state, node, time) => {
             model.loops(state, node, f32::from_bits(time))?;
         }
@@ -170,7 +166,7 @@ pub fn done(model: &mut Model, call: Call) -> Result<Vec<Matrix>, Refusal> {
 fn players_do_not_depend_on_endings() {
     let mut generator = Generator::new(12);
     let mut unlike = 0;
-    for _ in 0..600 {
+    for _ in 0..400 {
         let draft = accepted(&mut generator);
         let mut looping = draft.clone();
         looping.clips.iter_mut().for_each(|clip| clip.ending = LOOP);

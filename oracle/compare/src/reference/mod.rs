@@ -99,15 +99,6 @@ impl Reference {
         self.judged("a page frame", shown, other)
     }
 
-    /// One joint's matrix. The Rust's is that of a whole frame, and its player moves by that frame.
-    pub fn close_up(&mut self, ext: f64, joint: usize) -> Result<Matrix4<f32>, Refusal> {
-        let shown = self.model.close_up(ext, joint).map(|matrix| vec![matrix]);
-        let other = self.rust.as_mut().map(|rust| rust.close_up(ext, joint));
-        let other = other.map(|shown| shown.map(|matrix| vec![matrix]));
-        let shown = self.judged("a close-up", shown, other)?;
-        Ok(shown[0])
-    }
-
     /// What a state's clip node has played at a time. Nothing moves.
     pub fn loops(&self, state: usize, node: usize, time: f32) -> Result<Played, Refusal> {
         let answer = self.model.loops(state, node, time);

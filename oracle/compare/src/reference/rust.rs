@@ -102,16 +102,6 @@ impl RustPlayer {
         Ok(output)
     }
 
-    /// The Rust has no such call: a whole frame is shown, and one joint's matrix taken from it.
-    pub fn close_up(&mut self, ext: f64, joint: usize) -> Result<Matrix4<f32>, Refusal> {
-        let joints = self.playable()?.parents.len();
-        if joint >= joints {
-            return refused(15);
-        }
-        let matrices: Vec<Matrix4<f32>> = self.output_pose(ext, 16 * joints)?;
-        Ok(matrices[joint])
-    }
-
     /// The plan, where the controller is in states of it.
     fn playable(&self) -> Result<&Plan, Refusal> {
         let plan = self.checked.as_ref().map_err(|refusal| *refusal)?;

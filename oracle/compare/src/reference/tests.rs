@@ -267,35 +267,6 @@ fn an_answer_of_the_model_that_is_not_the_rusts_is_told() {
     let _ = reference.page_frame(0.0, 0);
 }
 
-#[test]
-fn a_close_up_is_refused_after_9() {
-    let mut reference = Reference::start(&blend());
-    assert_eq!(reference.close_up(0.0, 1), Err(refusal(15, 0)));
-    assert_eq!(reference.close_up(0.0, usize::MAX), Err(refusal(15, 0)));
-    let fresh = reference.player();
-    let elsewhere = Player { state: 2, ..fresh };
-    reference.store(&elsewhere);
-    for joint in [0, 1] {
-        assert_eq!(reference.close_up(0.0, joint), Err(refusal(9, 0)));
-    }
-    assert_eq!(reference.player().seen(), elsewhere.seen());
-    let mut none = Reference::resumed(&NO_FIGURE, &elsewhere);
-    assert_eq!(none.close_up(0.0, 0), Err(refusal(1, 0)));
-}
-
-#[test]
-#[should_panic(expected = "the oracle's own model is not the Rust's after a close-up")]
-fn a_close_up_of_the_model_that_is_not_the_rusts_is_told() {
-    let mut other = blend();
-    *other.numbers.last_mut().unwrap() ^= 0x3f80_0000;
-    let mut reference = Reference::start(&blend());
-    reference.set(0, 0.5).unwrap();
-    let player = reference.player();
-    reference.model = crate::model::Model::start(&other);
-    reference.model.store(&player);
-    let _ = reference.close_up(0.0, 0);
-}
-
 /// At 4.25 seconds, by a rate of 2, the only sample of state 1 was played eight times.
 #[test]
 #[should_panic(expected = "the oracle's own model is not the Rust's after a question for loops")]

@@ -1,7 +1,7 @@
 -- `blend_tree::poses::node_poses` meets its contract, by recursion on the node: the check has seen that a clip node's clip and instance are there, and
 -- that another node's inputs come before it and its parameter is there. Assumes nothing.
 use borrow.Author.Rules.{rules}
-use Prim.Native.Nat.{ℕ, ◌≤◌, ◌<◌}
+use Prim.Native.Nat.{ℕ, ◌+◌, ◌≤◌, ◌<◌}
 use native.Mathlib.Omega.{arith}
 use mathlib.Core.Path.{ap, ◌∙◌}
 use lib.ListN.{get_or}
@@ -12,7 +12,6 @@ use Rattle.model.specs.Clips.{instance_at}
 use Rattle.animation.proofs.instance_at.Reads as instance-at-reads
 use Rattle.layout.proofs.node_at.Reads as node-at-reads
 use Rattle.layout.proofs.NodeLaws.{node_small, NodeRead, is_clip_lem, no_clip, clip_inside, inputs_before, parameter_small}
-use Rattle.blend_tree.specs.Blocks.{joint_in}
 use Rattle.blend_tree.proofs.NodeLaws.{passes, slot_found, slot_small}
 use Rattle.blend_tree.proofs.PoseLaws.{of_clip, of_inputs}
 use Rattle.blend_tree.proofs.poses.clip_poses.Reads as clip-poses-reads
@@ -83,7 +82,7 @@ module _ (t : ℕ) where
       let s = start k in
       let r = s.pre.1 in
       c.clip-poses.ensures j h
-      ∙ of_clip (read k) s.args.numbers.now s.args.parameters.now s.args.state.time s.args.instances.now (joint_in s.args.plan.now s.args.joints j) i.if1.true
+      ∙ of_clip (read k) s.args.numbers.now s.args.parameters.now s.args.state.time s.args.instances.now (s.args.joints.first + j) i.if1.true
       (v.instance-at.ensures ∙ ap (instance_at s.args.instances.now) (slot_found (passes r.0.0) r.0.1 r.2 r.0.2))
 
   node-poses-requires : lts.Need-node-poses-requires (claims t) (node-poses-at t) reads.Post
@@ -116,7 +115,7 @@ module _ (t : ℕ) where
       let k = a.before.before.before.before in
       let s = start k in
       c.combine-all.ensures j h
-      ∙ of_inputs (read k) s.args.numbers.now s.args.parameters.now s.args.state.time s.args.instances.now (joint_in s.args.plan.now s.args.joints j) a.before.before.if1.false (a.node-poses.ensures j h) (b.node-poses2.ensures j h)
+      ∙ of_inputs (read k) s.args.numbers.now s.args.parameters.now s.args.state.time s.args.instances.now (s.args.joints.first + j) a.before.before.if1.false (a.node-poses.ensures j h) (b.node-poses2.ensures j h)
 
 pub +node-poses-spec : {M : Type 1} → statement M
 +node-poses-spec =

@@ -1,7 +1,7 @@
 -- `blend_tree::poses::state_poses` meets its contract: a passed state has a node, and its last one is the root. Assumes nothing.
+use Prim.Native.Nat.{◌+◌}
 use native.Mathlib.Omega.{arith}
 use mathlib.Core.Path.{◌∙◌}
-use Rattle.blend_tree.specs.Blocks.{joint_in}
 use Rattle.blend_tree.proofs.PoseLaws.{root_there, root_pose}
 use Rattle.blend_tree.proofs.poses.state_poses.Statement.{statement}
 use Rattle.blend_tree.proofs.poses.state_poses.Tie as tie
@@ -17,7 +17,7 @@ node-poses-requires c κs =
 returns : tie.Need-returns
 returns c j h =
     let s = c.before.before.before.before.before in
-    c.node-poses.ensures j h ∙ root_pose s.requires.0.1 s.requires.0.0 s.args.parameters.now s.args.state.time s.args.instances.now (joint_in s.args.plan.now s.args.joints j)
+    c.node-poses.ensures j h ∙ root_pose s.requires.0.1 s.requires.0.0 s.args.parameters.now s.args.state.time s.args.instances.now (s.args.joints.first + j)
 
 pub state-poses-spec : {M : Type 1} → statement M
 state-poses-spec = tie.close (tie.spec sub-root node-poses-requires returns)

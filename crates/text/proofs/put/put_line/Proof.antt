@@ -6,8 +6,8 @@ use lib.ListN.{length}
 use lib.Seq.{length-sets}
 use native.Mathlib.Omega.{arith}
 use Rattle.model.specs.Text.{field_count}
-use Rattle.lines.specs.LineFound.{max_fields}
-use Rattle.lines.proofs.FieldLaws.{fields_few}
+use Rattle.text.specs.LineFound.{max_fields}
+use Rattle.text.proofs.FieldLaws.{fields_few}
 use Rattle.text.proofs.LineLaws.{FirstPut, none_put, room_left, next_put, all_put}
 use Rattle.text.proofs.put.put_line.Statement.{statement}
 use Rattle.text.proofs.put.put_line.Tie as tie

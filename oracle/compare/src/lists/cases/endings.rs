@@ -90,15 +90,16 @@ fn clocks() -> List {
 }
 
 pub fn joins() -> Vec<List> {
-    // NaN comes last: synchronised by it, clips show NaNs for ever.
+    let values = [0.0, 0.5, 1.0, 2.0, -1.0, f32::NAN, f32::INFINITY, 0.25];
     let list = |name: &str, purpose, draft: Draft| {
-        let mut calls = swept(&draft, 0, &[0.0, 0.5, 2.0, -1.0]);
+        let mut calls = swept(&draft, 0, &values);
         calls.push(Call::update(8.0));
-        calls.extend(swept(&draft, 0, &[0.25, 0.75, f32::NAN]));
+        calls.extend(swept(&draft, 0, &[0.25, 0.75]));
         List::new(name, purpose, &draft, &calls)
     };
     let nodes = [CLIP, SECOND, THIRD, [2, 0, 1, 1], [1, 3, 2, 0]];
     let of_trees = figure(2, &THREE, 2, vec![state(&nodes, &[])]);
+    let special = posed(joined(2, 1), Numbers::Mixed);
     vec![
         list(
             "stop-lerp",
@@ -123,7 +124,7 @@ pub fn joins() -> Vec<List> {
         list(
             "stop-numbers",
             "held poses of all sorts of numbers",
-            stopping(posed(joined(2, 1), Numbers::Sparse), &[0, 1]),
+            stopping(special, &[0, 1]),
         ),
         same_clip(),
     ]

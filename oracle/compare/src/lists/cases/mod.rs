@@ -1,6 +1,5 @@
 //! The recorded lists one by one.
 
-mod close_ups;
 mod endings;
 mod loops;
 mod pages;
@@ -37,11 +36,6 @@ pub fn cases() -> Vec<List> {
         pauses::transitions(),
         pages::still_figures(),
         pages::moving_figures(),
-        close_ups::joints(),
-        close_ups::players(),
-        close_ups::transitions(),
-        vec![close_ups::refused()],
-        close_ups::malformed(),
         loops::positions(),
         loops::players(),
         loops::refused(),
@@ -61,14 +55,6 @@ pub fn cases() -> Vec<List> {
 
 fn length(draft: &Draft) -> usize {
     16 * draft.parents.len()
-}
-
-/// Each joint under the one before it.
-fn chained(mut draft: Draft) -> Draft {
-    for joint in 1..draft.parents.len() {
-        draft.parents[joint] = joint as u16 - 1;
-    }
-    draft
 }
 
 /// So many times an update by delta and a frame; every third is a page frame.
@@ -100,7 +86,7 @@ fn random() -> Vec<List> {
     while lists.len() < 12 {
         let draft = accepted(&mut generator);
         let kind = generator.pick(&Calls::ALL);
-        let calls: Vec<Call> = (0..20)
+        let calls: Vec<Call> = (0..24)
             .map(|_| call(&mut generator, &draft, kind))
             .filter(|call| call.has_text())
             .collect();

@@ -1,6 +1,6 @@
 //! Lists about page frames: own matrices are transposed, and then multiplied.
 
-use super::{chained, length, steps, swept};
+use super::{length, steps, swept};
 use crate::lists::call::Call;
 use crate::lists::figures::{figure, going, joined, one_clip, posed, state, CLIP, EQUAL};
 use crate::lists::recorded::List;
@@ -12,6 +12,14 @@ const ABOUT_ALL: [f32; 4] = [0.5, 0.5, 0.5, 0.5];
 const ABOUT_OTHERS: [f32; 4] = [0.5, -0.5, 0.5, 0.5];
 
 const INFINITY: f32 = f32::INFINITY;
+
+/// Each joint under the one before it.
+fn chained(mut draft: Draft) -> Draft {
+    for joint in 1..draft.parents.len() {
+        draft.parents[joint] = joint as u16 - 1;
+    }
+    draft
+}
 
 /// Where a joint is, and how it is turned.
 type Placed = ([f32; 3], [f32; 4]);

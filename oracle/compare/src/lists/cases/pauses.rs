@@ -58,7 +58,7 @@ fn between() -> List {
     ];
     let draft = emptied(figure(2, &THREE, 1, states), &[1]);
     let purpose = "between clips with samples, each in its turn";
-    List::new("pause-between", purpose, &draft, &steps(&draft, 0.25, 9))
+    List::new("pause-between", purpose, &draft, &steps(&draft, 0.25, 12))
 }
 
 /// From a state that shows a pause to one that blends it with a clip; both clips stop.
@@ -69,12 +69,11 @@ fn wide() -> List {
     ];
     let draft = stopping(figure(33, &[(0, 1.0), (2, 1.0)], 2, states), &[0, 1]);
     let frame = Call::frame(0.0, length(&draft));
-    // The transition begins in a close-up: a frame would show the identities once more.
     let calls = [
         Call::set(1, 0.5),
         frame,
         Call::set(0, 1.0),
-        Call::joint(0.0, 32),
+        frame,
         Call::update(0.5),
         Call::page(0.0, length(&draft)),
         Call::update(1.0),
@@ -105,11 +104,11 @@ const ADDITIVES: [Join; 3] = [
 
 /// Clips 0 and 1 joined, some of them empty, or in a larger tree.
 pub fn joins() -> Vec<List> {
-    let values = [0.0, 0.5, 2.0, -1.0, f32::NAN, 0.25];
+    let values = [0.0, 0.5, 1.0, 2.0, -1.0, f32::NAN, 0.25];
     let list =
         |name, purpose, draft: Draft| List::new(name, purpose, &draft, &swept(&draft, 0, &values));
     let of = |kind: u16| {
-        move |(name, purpose, empty): Join| list(name, purpose, emptied(joined(1, kind), empty))
+        move |(name, purpose, empty): Join| list(name, purpose, emptied(joined(2, kind), empty))
     };
     let nodes = [CLIP, SECOND, THIRD, [2, 0, 1, 1], [1, 3, 2, 0]];
     let of_trees = figure(2, &THREE, 2, vec![state(&nodes, &[])]);

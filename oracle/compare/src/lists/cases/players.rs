@@ -53,18 +53,10 @@ pub fn clocks() -> Vec<List> {
     let bench = [vec![Call::update(2.0), Call::speed(3.0)], shown.to_vec()].concat();
     let lerp = joined(1, 1);
     let mut long = vec![Call::set(0, 0.375)];
-    for _ in 0..15 {
-        long.extend([Call::update(1.0 / 60.0); 3]);
-        long.extend(steps(&lerp, 1.0 / 60.0, 1));
-    }
+    long.extend(steps(&lerp, 1.0 / 60.0, 60));
     vec![
         List::new("ext-and-speed", "case k of the bench sheet", &clip, &bench),
-        List::new(
-            "long",
-            "60 steps of a sixtieth, every fourth shown",
-            &lerp,
-            &long,
-        ),
+        List::new("long", "60 steps of a sixtieth", &lerp, &long),
     ]
 }
 
@@ -91,55 +83,38 @@ pub fn parameters() -> Vec<List> {
     ]
 }
 
-/// A frame and a page frame in turns, into outputs of these lengths.
-fn into(lengths: &[usize], name: &str, purpose: &'static str, joints: u16) -> List {
-    let draft = going(joints, &[(0, EQUAL, 1, 0.0, 1.0)]);
-    let shown = |(i, &length): (usize, &usize)| match i % 2 {
-        0 => [Call::update(0.5), Call::frame(0.0, length)],
-        _ => [Call::update(0.5), Call::page(0.0, length)],
-    };
-    let calls: Vec<Call> = lengths.iter().enumerate().flat_map(shown).collect();
-    List::new(name, purpose, &draft, &calls)
-}
-
-const OUTPUTS: [(&str, &str, u16); 7] = [
-    (
-        "output-1-joint",
-        "outputs too short, long enough and longer",
-        1,
-    ),
-    ("output-2-joints", "likewise for two joints", 2),
-    (
-        "output-31-joints",
-        "too short and just long enough for 31 joints",
-        31,
-    ),
-    ("output-32-joints", "likewise for 32 joints", 32),
-    ("output-33-joints", "likewise for 33 joints", 33),
-    ("output-64-joints", "likewise for 64 joints", 64),
-    ("output-65-joints", "likewise for 65 joints, and longer", 65),
-];
-
-/// Frames of many joints take much room, so of most figures with many only one is shown.
 pub fn outputs() -> Vec<List> {
-    let list = |(name, purpose, joints): (&str, &'static str, u16)| {
-        let needed = 16 * usize::from(joints);
-        let [below, above] = [needed - 1, needed + 1];
-        let lengths: &[usize] = match joints {
-            1 | 2 => &[0, 1, 15, 16, below, needed, above, 65535],
-            65 => &[below, needed, above],
-            _ => &[16, below, needed],
+    let list = |name: &str, purpose, draft: Draft| {
+        let needed = length(&draft);
+        let lengths = [0, 1, 15, 16, needed - 1, needed, needed + 1, 65535];
+        let shown = |(i, &length): (usize, &usize)| match i % 2 {
+            0 => [Call::update(0.5), Call::frame(0.0, length)],
+            _ => [Call::update(0.5), Call::page(0.0, length)],
         };
-        into(lengths, name, purpose, joints)
+        let calls: Vec<Call> = lengths.iter().enumerate().flat_map(shown).collect();
+        List::new(name, purpose, &draft, &calls)
     };
-    OUTPUTS.into_iter().map(list).collect()
+    let going = |joints| going(joints, &[(0, EQUAL, 1, 0.0, 1.0)]);
+    vec![
+        list(
+            "output-1-joint",
+            "outputs too short, long enough and longer",
+            going(1),
+        ),
+        list("output-2-joints", "likewise for two joints", going(2)),
+        list("output-31-joints", "likewise for 31 joints", going(31)),
+        list("output-32-joints", "likewise for 32 joints", going(32)),
+        list("output-33-joints", "likewise for 33 joints", going(33)),
+        list("output-64-joints", "likewise for 64 joints", going(64)),
+        list("output-65-joints", "likewise for 65 joints", going(65)),
+    ]
 }
 
 pub fn numbers() -> Vec<List> {
     let wide = |numbers| posed(joined(3, 2), numbers);
     let list = |name: &str, purpose, draft: Draft| {
         let mut calls = swept(&draft, 0, &[0.0, 0.5, 1.0]);
-        calls.extend(steps(&draft, 0.3, 1));
+        calls.extend(steps(&draft, 0.3, 3));
         List::new(name, purpose, &draft, &calls)
     };
     vec![

@@ -22,7 +22,6 @@ fn calls() -> Vec<Call> {
         Call::frame(0.5, 0),
         Call::page(0.5, 65535),
         Call::loops(9, 9, 0.5),
-        Call::joint(0.5, 65535),
     ]
 }
 

@@ -121,7 +121,7 @@ fn three(joints: u16, goes: [&[Go]; 3]) -> Draft {
 pub fn rings() -> Vec<List> {
     let go = |target| [(1, EQUAL, target, 0.0, 0.5)];
     let list = |name: &str, purpose, draft: Draft| {
-        List::new(name, purpose, &draft, &steps(&draft, 0.25, 9))
+        List::new(name, purpose, &draft, &steps(&draft, 0.25, 12))
     };
     let round = three(2, [&go(1), &go(2), &go(0)]);
     let mut last = round.clone();

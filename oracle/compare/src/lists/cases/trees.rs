@@ -22,7 +22,7 @@ pub fn clips() -> Vec<List> {
     let moving = || one_clip(3, 4, 1.0);
     let mut lists = vec![
         list("clip-still", "one sample", one_clip(1, 1, 1.0), 0.5, 3),
-        list("clip-loop", "at and between samples", moving(), 0.375, 12),
+        list("clip-loop", "at and between samples", moving(), 0.375, 22),
         list("clip-backwards", "negative positions", moving(), -0.75, 4),
     ];
     let with_rate = |(name, purpose, rate)| list(name, purpose, one_clip(2, 3, rate), 0.5, 4);
@@ -31,8 +31,7 @@ pub fn clips() -> Vec<List> {
 }
 
 pub fn joins() -> Vec<List> {
-    // Behind the last two a lerp of clips shows NaNs for ever.
-    let values = [0.0, 0.5, 1.0, 2.0, -1.0, 0.25, f32::INFINITY, f32::NAN];
+    let values = [0.0, 0.5, 1.0, 2.0, -1.0, f32::NAN, f32::INFINITY, 0.25];
     let list = |name: &str, purpose, draft: Draft| {
         List::new(name, purpose, &draft, &swept(&draft, 0, &values))
     };

@@ -1,2 +1,0 @@
--- What the steps of a close-up give
-pub mod Chain

@@ -1,2 +1,0 @@
--- What hosts are shown
-pub mod HostCloseUp

@@ -1,3 +1,0 @@
--- What a line holds
-pub mod LineFound
-pub mod LineReading
