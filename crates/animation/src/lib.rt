@@ -1,4 +1,6 @@
 // Ports animation.rs: a position in a clip, the pose there, and clip instances.
+#![tactic(auto)]
+
 ghost use Rattle.std.specs.Prelude.{◌≡◌, suc, ◌+◌, ◌%◌, ◌<◌, ◌≤◌, length};
 ghost use Rattle.model.specs.Numbers.{◌/₃₂◌, index_float};
 ghost use Rattle.model.specs.Pose.{lerp as lerp_pose};

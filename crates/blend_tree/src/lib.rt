@@ -1,4 +1,6 @@
 // Ports blend_tree.rs: synchronising the clips of a tree, and the poses of its nodes for a block of joints.
+#![tactic(auto)]
+
 use layout::{Layout, StateLayout};
 use model::limits::MAX_NODES;
 

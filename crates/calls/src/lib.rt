@@ -1,4 +1,6 @@
 // Lists of calls as text, a call a line.
+#![tactic(auto)]
+
 ghost use Rattle.std.specs.Prelude.{◌≡◌, ◌≤◌, length, drop, false};
 ghost use Rattle.fields.specs.Found.{found};
 ghost use Rattle.calls.specs.CallText.{decimal_field, bits_field, wide_field};

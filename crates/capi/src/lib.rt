@@ -1,5 +1,7 @@
 // The static library: the calls for hosts in C and Rust. A player stays in the host's memory, as a flat struct. No call
 // asks anything of its content.
+#![tactic(auto)]
+
 ghost use Rattle.std.specs.Prelude.{◌≡◌, ◌/◌};
 ghost use Rattle.model.specs.declared.FrameKind.TheVariants as Kind;
 ghost use Rattle.model.specs.Plan.{max_plan, joint_count, output_at};

@@ -1,5 +1,7 @@
 // Ports controller.rs: the calls on a player. Each takes the player by value and returns it with its answer, but for
 // `update_in_place`, which changes the caller's; none asks anything of its caller.
+#![tactic(auto)]
+
 ghost use Rattle.std.specs.Prelude.{◌≡◌, replicate};
 ghost use Rattle.model.specs.Numbers.{0f};
 ghost use Rattle.model.specs.declared.FrameKind.TheVariants.{Ordinary, Page};

@@ -1,4 +1,6 @@
 // The name or the field at a place of a text. The cursor that walks over a line's fields is in `text::lines`.
+#![tactic(auto)]
+
 ghost use Rattle.std.specs.Prelude.{◌≡◌, cond, ℕ, ◌+◌, ◌-◌, ◌<◌, ◌≤◌, ◌^◌, length, get_or, drop};
 ghost use Rattle.model.specs.Text.{digit, digit_count, begins};
 ghost use Rattle.model.specs.declared.FieldForm.TheVariants as FieldForm;

@@ -1,5 +1,7 @@
 // A frame and a page frame on the parts of a player, which their owner lends, so that nothing large is copied.
 // `controller` has both on a player by value.
+#![tactic(auto)]
+
 ghost use Rattle.std.specs.Prelude.{◌≡◌, true, ◌<◌, ◌≤◌};
 ghost use Rattle.model.specs.declared.Transition.TheVariants as Transition;
 ghost use Rattle.model.specs.Plan.{max_joints, state_count};

@@ -1,5 +1,7 @@
 // The program: reads a figure's text from standard input, starts it, and prints each joint's matrix of one frame, or the
 // refusal. `program::answer` does the work, on slices; here are only the reading and the writing.
+#![tactic(auto)]
+
 use input::read_input;
 use libc::{STDERR_FILENO, STDIN_FILENO, STDOUT_FILENO};
 use model::limits::MAX_TEXT;

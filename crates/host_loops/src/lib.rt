@@ -1,4 +1,6 @@
 // How many loops a clip has played as hosts in C and Rust hold it, flat since their interface has no enums.
+#![tactic(auto)]
+
 ghost use Rattle.host_loops.specs.HostLoops.{HostLoopsCounted};
 
 use host_player::{HostPlayer, host_answer, unpack};

@@ -1,6 +1,8 @@
 // A player and answers as hosts in C and Rust hold them, flat since their interface has no enums, and the calls on the
 // parts of such a player.
 // `capi` has the calls that hosts make, which only load and store what is theirs.
+#![tactic(auto)]
+
 ghost use Rattle.std.specs.Prelude.{◌≡◌};
 ghost use Rattle.model.specs.Answers.{values};
 ghost use Rattle.model.specs.Text.{text_values};

@@ -1,4 +1,6 @@
 // What a figure can use as hosts in C and Rust hold it, flat since their interface has no enums.
+#![tactic(auto)]
+
 ghost use Rattle.host_uses.specs.HostUses.{HostUsesFound};
 
 use host_player::host_answer;

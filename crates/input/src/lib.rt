@@ -1,4 +1,6 @@
 // Reading a file descriptor to its end.
+#![tactic(auto)]
+
 ghost use Rattle.std.specs.Prelude.{◌-◌, ◌≤◌, length};
 
 // How often reading may fail before it is given up. C's read gives no reason here, and one that a signal interrupted is worth another try.

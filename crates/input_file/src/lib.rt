@@ -1,4 +1,6 @@
 // Reading the file that an argument names to its end.
+#![tactic(auto)]
+
 ghost use Rattle.std.specs.Prelude.{◌≤◌, length};
 
 use input::{Input, read_input};

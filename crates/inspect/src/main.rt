@@ -1,5 +1,7 @@
 // The program `inspect VERB ..`: tells about a figure what can be told without playing it, a verb for each question.
 // What a verb prints is a library's work, on slices; here are only the arguments, the reading and the writing.
+#![tactic(auto)]
+
 use check::same;
 use input_file::read_file;
 use libc::{STDERR_FILENO, STDOUT_FILENO};

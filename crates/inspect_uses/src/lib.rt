@@ -1,5 +1,7 @@
 // What `inspect uses` prints: which states, parameters and clips a figure can use.
 // Each function but the last puts something into a slice from a place on, and returns the place behind it.
+#![tactic(auto)]
+
 ghost use Rattle.std.specs.Prelude.{◌≡◌, cond, ◌+◌, ◌*◌, ◌≤◌, length};
 ghost use Rattle.model.specs.Plan.{max_states, max_parameters, max_clips, state_count, parameter_count, clip_count};
 ghost use Rattle.model.specs.Uses.{is_marked};

@@ -1,4 +1,6 @@
 // A block of joints' poses, part by part in one array, which its owner lends. Loops over lanes then become vector code.
+#![tactic(auto)]
+
 ghost use Rattle.std.specs.Prelude.{◌≡◌, ◌<◌};
 ghost use Rattle.lanes.specs.Lanes.{block_size, lane_at, LaneSet};
 

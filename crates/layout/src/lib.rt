@@ -1,4 +1,6 @@
 // Where the words and numbers of a plan stand. No other crate adds up places; what each one is stands in model's Plan.
+#![tactic(auto)]
+
 ghost use Rattle.std.specs.Prelude.{◌≡◌, List, ℕ, ◌+◌, ◌*◌, ◌<◌, ◌≤◌, length, get_or};
 ghost use Rattle.std.specs.Float.{nan};
 ghost use Rattle.model.specs.Text.{max_word};

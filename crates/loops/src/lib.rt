@@ -1,5 +1,7 @@
 // How many whole loops a clip node's clip has played, and the rest (document 02, Card 7). The player is only read, and
 // nothing is synchronised: its clip instance counts as it was handed in.
+#![tactic(auto)]
+
 ghost use Rattle.std.specs.Prelude.{◌≡◌, ◌<◌};
 ghost use Rattle.model.specs.Numbers.{floor_index};
 ghost use Rattle.model.specs.Promises.{LoopsCounted};

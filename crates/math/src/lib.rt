@@ -1,4 +1,6 @@
 // Ports math.rs: inv_sqrt, lerp_quaternion, both rotation conversions, and vecmath's matrix product.
+#![tactic(auto)]
+
 ghost use Rattle.std.specs.Prelude.{◌≡◌};
 ghost use Rattle.model.specs.Numbers.{first_guess, inv_sqrt};
 ghost use Rattle.model.specs.Rotations.{quaternion, dot, scaled, second_weight, weighted_sum, lerp_quaternion, product_row};

@@ -1,3 +1,1 @@
 pub mod Tags
--- A function that makes one call
-pub mod OneCall

@@ -1,4 +1,6 @@
 // The types of the interface. What they mean is defined in specs/, one file for each section of document 01 and each card of document 02.
+#![tactic(auto)]
+
 ghost use Rattle.std.specs.Prelude.{◌≡◌};
 ghost use Rattle.model.specs.Answers.{values, refused};
 

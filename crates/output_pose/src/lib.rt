@@ -1,5 +1,7 @@
 // Steps 2 and 3 of a frame: the state's clips are synchronised, its poses evaluated block by block, and the matrices
 // written.
+#![tactic(auto)]
+
 ghost use Rattle.std.specs.Prelude.{◌≡◌, true, ◌+◌, ◌<◌, ◌≤◌};
 ghost use Rattle.model.specs.Plan.{clip_count, state_count};
 ghost use Rattle.model.specs.Clips.{local_time, clip_pose};

@@ -1,4 +1,6 @@
 // The check of a plan, front to back in one pass, and the layout that it finds.
+#![tactic(auto)]
+
 ghost use Rattle.std.specs.Prelude.{◌≡◌};
 ghost use Rattle.model.specs.Answers.{values};
 ghost use Rattle.plan.specs.Checked.{PlanChecked, verdict};

@@ -1,4 +1,6 @@
 // The programs' work: from the bytes of a figure's text to the bytes that are printed, by what is asked of the figure.
+#![tactic(auto)]
+
 ghost use Rattle.std.specs.Prelude.{◌≡◌, ◌≤◌, length};
 ghost use Rattle.model.specs.Answers.{accepted};
 ghost use Rattle.model.specs.Controller.{fresh};

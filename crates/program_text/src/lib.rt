@@ -1,4 +1,6 @@
 // What every program does with the text of a figure, before it shows anything.
+#![tactic(auto)]
+
 ghost use Rattle.program_text.specs.ProgramText.{ProgramTextRead};
 
 use layout::MAX_PLAN;

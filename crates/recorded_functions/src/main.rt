@@ -1,5 +1,7 @@
 // Answers the rows of standard input by the functions of float, math and transform, a line for each.
 // README.md has the rows' format; oracle/compare makes rows and judges the answers.
+#![tactic(auto)]
+
 mod answer;
 mod text;
 

@@ -1,5 +1,7 @@
 // Replays lists of calls, as many as standard input has, and prints what `replay` would print for each.
 // README.md has the format; oracle/compare records lists and the expected reports.
+#![tactic(auto)]
+
 ghost use Rattle.std.specs.Prelude.{◌≤◌, length};
 
 use calls::MAX_LIST;

@@ -1,5 +1,7 @@
 // Puts texts to the programs' work, as many as standard input has, and prints what the program would print for each.
 // README.md has the format; oracle/compare records texts and the expected answers.
+#![tactic(auto)]
+
 mod damage;
 
 ghost use Rattle.std.specs.Prelude.{◌≤◌, length};

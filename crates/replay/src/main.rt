@@ -1,5 +1,7 @@
 // The program `replay FIGURE CALLS`: reads a figure's text and a list of calls from two files, and prints what each call
 // shows.
+#![tactic(auto)]
+
 use calls::MAX_LIST;
 use input_file::read_file;
 use libc::STDERR_FILENO;

@@ -1,6 +1,8 @@
 // A list of calls performed on a figure, with what each call shows put into a slice of bytes. A long list shows more
 // than any buffer holds, so `perform` stops where there is no room for another report and says how far it came; its
 // caller prints, and goes on from there.
+#![tactic(auto)]
+
 ghost use Rattle.std.specs.Prelude.{◌≡◌, [], ◌∷◌, ◌+◌, ◌≤◌, length};
 ghost use Rattle.model.specs.declared.Answer.TheVariants as Answer;
 ghost use Rattle.model.specs.Answers.{values, unless_refused};

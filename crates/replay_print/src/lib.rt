@@ -1,5 +1,7 @@
 // Prints what replaying a list of calls on a figure shows. The work is `replay_core`'s, on slices; here it is written to
 // standard output, part by part.
+#![tactic(auto)]
+
 ghost use Rattle.std.specs.Prelude.{◌≤◌, length};
 
 use calls::check_calls;

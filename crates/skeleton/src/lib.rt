@@ -1,4 +1,6 @@
 // Ports skeleton.rs: the joints' global matrices, written into the caller's buffer, for both kinds of frame.
+#![tactic(auto)]
+
 ghost use Rattle.std.specs.Prelude.{◌≡◌, suc, ◌+◌, ◌<◌, ◌≤◌, leb, length, drop};
 ghost use Rattle.model.specs.Rotations.{identity_matrix, floats, product};
 ghost use Rattle.model.specs.Pose.{to_matrix};

@@ -1,5 +1,7 @@
 // Plays small figures through all calls and refusals, and prints what each call answers, the player and the matrices. Floats are their bits.
 // README.md lists the cases; each begins with its name.
+#![tactic(auto)]
+
 mod in_place;
 mod refusals;
 mod show;

@@ -1,4 +1,6 @@
 // How the test programs read their cases from standard input, and write what they found.
+#![tactic(auto)]
+
 ghost use Rattle.std.specs.Prelude.{◌≤◌, length};
 
 use fields::{Field, read_field};

@@ -1,4 +1,6 @@
 // Ports transform.rs: the pose, which the Rust calls QVTransform.
+#![tactic(auto)]
+
 ghost use Rattle.std.specs.Prelude.{◌≡◌};
 ghost use Rattle.model.specs.Pose.{identity_pose, lerp_float, lerp_vector, to_matrix, from_matrix};
 ghost use Rattle.model.specs.Pose.{lerp as lerp_pose, concat as concat_pose};

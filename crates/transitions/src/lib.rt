@@ -1,4 +1,6 @@
 // What a frame does to the player's transition before anything is shown.
+#![tactic(auto)]
+
 ghost use Rattle.std.specs.Prelude.{◌≡◌, ℕ, ◌<◌};
 ghost use Rattle.model.specs.declared.Winner.TheVariants as Winner;
 ghost use Rattle.model.specs.Controller.{holds, condition_holds, winner, started_by, is_ended};

@@ -1,5 +1,7 @@
 // What a figure can use (document 02, Card 3). From the initial state on each state that is met is followed once: its
 // transitions mark further states, its conditions and nodes the parameters that they read and the clips that they play.
+#![tactic(auto)]
+
 ghost use Rattle.std.specs.Prelude.{◌≡◌, ◌<◌, ◌≤◌, length};
 ghost use Rattle.model.specs.Plan.{max_clips, max_parameters, max_states, state_count};
 ghost use Rattle.model.specs.Uses.{leads_to, node_reads, blends_by, asks_for, reads, node_plays, plays};
