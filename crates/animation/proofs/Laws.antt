@@ -9,7 +9,7 @@ use lib.Dec.{T}
 use lib.IntN.{pos}
 use lib.Ieee.{Float, fin, binary32, lt, fits, of_int, to_unsigned}
 use Rattle.model.specs.Numbers.{floor_index, ceiling_index}
-use Rattle.model.specs.Laws.Wholes.{floor_is}
+use Rattle.model.proofs.Laws.Wholes.{floor_is}
 use Rattle.float.proofs.Index.{ceiling_small, ceiling_large}
 
 -- a ceiling that is not the floor is the index after it

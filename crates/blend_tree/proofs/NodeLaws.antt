@@ -6,7 +6,7 @@ use mathlib.Core.List.{List}
 use lib.ListN.{length, get_or}
 use lib.Ieee.{Float}
 use Rattle.model.specs.Plan.{max_clip_nodes, is_clip, clip_node_at}
-use Rattle.model.specs.Laws.State.{few_clip_nodes}
+use Rattle.model.proofs.Laws.State.{few_clip_nodes}
 use Rattle.layout.specs.declared.Layout.{Layout}
 use Rattle.layout.specs.declared.StateLayout.{StateLayout}
 use Rattle.layout.specs.Layout.{Passes, InPlan}

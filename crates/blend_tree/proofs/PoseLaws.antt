@@ -13,8 +13,8 @@ use Rattle.model.specs.Plan.{is_lerp, clip_node_at}
 use Rattle.model.specs.Pose.{identity_pose}
 use Rattle.model.specs.Clips.{local_time, instance_at, clip_pose}
 use Rattle.model.specs.Tree.{parameter, node_pose, node_poses, state_pose}
-use Rattle.model.specs.Laws.Table.{table_at}
-use Rattle.model.specs.Laws.State.{some_nodes}
+use Rattle.model.proofs.Laws.Table.{table_at}
+use Rattle.model.proofs.Laws.State.{some_nodes}
 use Rattle.layout.specs.declared.Layout.{Layout}
 use Rattle.layout.specs.declared.StateLayout.{StateLayout}
 use Rattle.layout.specs.declared.Node.{Node}

@@ -12,10 +12,10 @@ use Rattle.model.specs.Text.{max_word}
 use Rattle.model.specs.Plan.{max_joints, max_clips, max_samples, joint_count, clip_count, state_count, sample_count, samples_before, poses_at, number, Rate, number_at, numbers_length, sample_pose}
 use Rattle.model.specs.Pose.{identity_pose}
 use Rattle.model.specs.Clips.{local_time, clip_pose}
-use Rattle.model.specs.Laws.Totals.{total_below, total_most}
-use Rattle.model.specs.Laws.Clips.{first_below as first-in-clip, second_below as second-in-clip, pose_of_samples}
-use Rattle.model.specs.Laws.Passed.{few_samples, few_joints, few_clips, few_states, few_transitions_before, numbers_fit}
-use Rattle.model.specs.Pauses.{shows_identity}
+use Rattle.model.proofs.Laws.Totals.{total_below, total_most}
+use Rattle.model.proofs.Laws.Clips.{first_below as first-in-clip, second_below as second-in-clip, pose_of_samples}
+use Rattle.model.proofs.Laws.Passed.{few_samples, few_joints, few_clips, few_states, few_transitions_before, numbers_fit}
+use Rattle.model.proofs.Pauses.{shows_identity}
 use Rattle.layout.specs.declared.Layout.{Layout}
 use Rattle.layout.specs.Layout.{layout_of}
 use Rattle.layout.proofs.Laws.{joints_found}

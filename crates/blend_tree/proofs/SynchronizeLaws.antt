@@ -13,10 +13,10 @@ use borrow.Author.Tests.{eq-eqb, ne_eqb}
 use Rattle.model.specs.Answers.{accepted}
 use Rattle.model.specs.Plan.{max_clip_nodes, sample_count, is_empty, state_count, node_count, is_clip, is_lerp, total, clip_nodes_before, clip_node_at}
 use Rattle.model.specs.Check.{check_state}
-use Rattle.model.specs.Laws.Touched.{touched_blends, touched_a, touched_b}
-use Rattle.model.specs.Laws.ClipNodes.{first_clip_node, clip_counts, blend_counts_not}
-use Rattle.model.specs.Laws.State.{few_clip_nodes}
-use Rattle.model.specs.Laws.Passed.{state_passed}
+use Rattle.model.proofs.Laws.Touched.{touched_blends, touched_a, touched_b}
+use Rattle.model.proofs.Laws.ClipNodes.{first_clip_node, clip_counts, blend_counts_not}
+use Rattle.model.proofs.Laws.State.{few_clip_nodes}
+use Rattle.model.proofs.Laws.Passed.{state_passed}
 use Rattle.model.specs.Tree.{parameter, target_length, plays_samples, is_touched, node_length, node_target, synchronized_rate, rate_set, input_synchronized, synchronize_node}
 use Rattle.layout.specs.declared.StateLayout.{StateLayout}
 use Rattle.layout.specs.declared.Node.{Node}

@@ -16,7 +16,7 @@ use Rattle.model.specs.declared.FrameKind.TheVariants.{Ordinary, Page}
 use Rattle.model.specs.Run as Run
 use Rattle.model.specs.Text as Text
 use Rattle.model.specs.Text.{front, comma, line_feed, digit_count, numeral, max_word, is_field, none, field, field_in, begins}
-use Rattle.model.specs.Laws.Text.{field_law}
+use Rattle.model.proofs.Laws.Text.{field_law}
 use Rattle.fields.specs.declared.Field.{Field}
 use Rattle.fields.specs.declared.Field.TheVariants.{Value, Nothing}
 use Rattle.fields.specs.Found.{found, field_at}

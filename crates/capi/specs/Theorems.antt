@@ -7,8 +7,8 @@ use borrow.Author.Tests.{le-leb}
 use Rattle.model.specs.Plan.{max_plan}
 use Rattle.model.specs.Text.{Reading, bad, got, read_figure, text_verdict}
 use Rattle.model.specs.Program.{number_bytes}
-use Rattle.model.specs.Laws.Reading.{figure_fits}
-use Rattle.round_trip.specs.Theorems.{words_most}
+use Rattle.model.proofs.Laws.Reading.{figure_fits}
+use Rattle.round_trip.proofs.Theorems.{words_most}
 use Rattle.host_player.specs.declared.HostTextAnswer.{HostTextAnswer}
 use Rattle.host_player.specs.HostPlayer.{host_text_answer}
 use Rattle.host_player.specs.HostPromises.{HostTextRead}

@@ -13,7 +13,7 @@ use borrow.Author.Tests.{lt-ltb, le-ltb, le-leb, lt-leb, eqb-true, eq-eqb, ne_eq
 use Rattle.model.specs.declared.FieldForm.{FieldForm}
 use Rattle.model.specs.declared.FieldForm.TheVariants.{Decimal, Bits}
 use Rattle.model.specs.Check.{within}
-use Rattle.model.specs.Laws.Digits.{run_length, numeral_small}
+use Rattle.model.proofs.Laws.Digits.{run_length, numeral_small}
 use Rattle.model.specs.Text.{front, digit, digit_count, numeral, base_of, is_field, none, field, field_in}
 use Rattle.fields.specs.CountedTo.{CountedTo}
 use Rattle.fields.specs.Found.{field_at, found}

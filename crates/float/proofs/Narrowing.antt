@@ -11,8 +11,8 @@ use lib.Ieee.Nearest.{closest}
 use Rattle.model.specs.Numbers.{narrow}
 use Rattle.model.specs.Classes.{IsFinite, IsZero, IsNormal, IsSubnormal}
 use Rattle.model.specs.Narrowing.{value, rounded_result, is_minus, magnitude_bits, FallsIn, with_sign, delivered}
-use Rattle.model.specs.ExactlyOne.{narrow_delivers}
-use Rattle.model.specs.Laws.Classes.{fields_finite, fields_normal, fields_subnormal}
+use Rattle.model.proofs.ExactlyOne.{narrow_delivers}
+use Rattle.model.proofs.Laws.Classes.{fields_finite, fields_normal, fields_subnormal}
 use Rattle.model.specs.declared.Narrowed.{Narrowed}
 use Rattle.model.specs.declared.Narrowed.TheVariants.{Nan, Infinite, TooLarge, Normal, Subnormal, Zero}
 use Rattle.float.specs.Narrowing.{RoundsTo, case_pattern}

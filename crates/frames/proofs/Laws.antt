@@ -18,10 +18,10 @@ use Rattle.model.specs.Check.{check}
 use Rattle.model.specs.Controller.{with_state, with_transition, with_instances, is_target_below, has_states, frame_verdict, now_at, step_from, elapsed}
 use Rattle.model.specs.Run.{frame_player, frame_matrices}
 use Rattle.model.specs.Promises.{Framed}
-use Rattle.model.specs.Laws.Answers.{then_left, then_right, require_true}
-use Rattle.model.specs.Laws.Tests.{and_left, and_right}
-use Rattle.model.specs.Laws.Passed.{state_passed}
-use Rattle.model.specs.Laws.Steps.{step_target_below, step_state_below}
+use Rattle.model.proofs.Laws.Answers.{then_left, then_right, require_true}
+use Rattle.model.proofs.Laws.Tests.{and_left, and_right}
+use Rattle.model.proofs.Laws.Passed.{state_passed}
+use Rattle.model.proofs.Laws.Steps.{step_target_below, step_state_below}
 use Rattle.layout.specs.declared.Layout.{Layout}
 use Rattle.layout.specs.declared.StateLayout.{StateLayout}
 use Rattle.layout.specs.Layout.{layout_of, state_layout}

@@ -16,7 +16,7 @@ use Rattle.model.specs.Run.{start_verdict}
 use Rattle.model.specs.Text.{line_feed, name}
 use Rattle.model.specs.Program.{decimal_fields}
 use Rattle.model.specs.Promises.{UsesFound}
-use Rattle.model.specs.Laws.Passed.{few_states, few_parameters, few_clips}
+use Rattle.model.proofs.Laws.Passed.{few_states, few_parameters, few_clips}
 use Rattle.printing.specs.Written.{Written}
 use Rattle.printing.proofs.Laws.{more_written}
 use Rattle.report.specs.Report.{answer_line}

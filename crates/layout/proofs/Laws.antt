@@ -13,9 +13,9 @@ use Rattle.model.specs.Answers.{accepted}
 use Rattle.model.specs.Text.{max_word}
 use Rattle.model.specs.Plan.{max_nodes, word, joint_count, clip_count, state_count, after_nodes, after_transitions, state_at, node_count, kind_at, transition_count_at, transition_count, condition_parameter_at, total, clip_nodes_before, transitions_before, number_at, Value, Duration}
 use Rattle.model.specs.Check.{check_state}
-use Rattle.model.specs.Laws.State.{node_there, transition_there, transition_count_there, few_nodes, few_transitions}
-use Rattle.model.specs.Laws.Trees.{clip_nodes_divided}
-use Rattle.model.specs.Laws.Passed.{state_passed, few_joints, few_clips, few_states, few_transitions_before, few_clip_nodes_before}
+use Rattle.model.proofs.Laws.State.{node_there, transition_there, transition_count_there, few_nodes, few_transitions}
+use Rattle.model.proofs.Laws.Trees.{clip_nodes_divided}
+use Rattle.model.proofs.Laws.Passed.{state_passed, few_joints, few_clips, few_states, few_transitions_before, few_clip_nodes_before}
 use Rattle.layout.specs.declared.Layout.{Layout}
 use Rattle.layout.specs.declared.StateLayout.{StateLayout}
 use Rattle.layout.specs.Layout.{Passes, InPlan, layout_of, state_layout}

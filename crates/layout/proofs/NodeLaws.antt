@@ -7,8 +7,8 @@ use mathlib.Core.List.{List}
 use lib.Dec.{eqb}
 use borrow.Author.Tests.{eq-eqb, ne_eqb}
 use Rattle.model.specs.Plan.{max_parameters, max_nodes, clip_count, state_count, node_count, is_clip}
-use Rattle.model.specs.Laws.State.{a_earlier, b_earlier, clip_below, parameter_below, condition_below, target_below}
-use Rattle.model.specs.Laws.Passed.{few_parameters}
+use Rattle.model.proofs.Laws.State.{a_earlier, b_earlier, clip_below, parameter_below, condition_below, target_below}
+use Rattle.model.proofs.Laws.Passed.{few_parameters}
 use Rattle.layout.specs.declared.StateLayout.{StateLayout}
 use Rattle.layout.specs.declared.Node.{Node}
 use Rattle.layout.specs.declared.Condition.{Condition}

@@ -21,7 +21,7 @@ use Rattle.model.specs.Clips.{local_time, instance_at, position_of, sampled_posi
 use Rattle.model.specs.Controller.{has_states, play_verdict}
 use Rattle.model.specs.Loops.{is_clip_node, is_looping, loops_verdict, played_index, whole_loops, loop_rest}
 use Rattle.model.specs.Promises.{LoopsCounted}
-use Rattle.model.specs.Repeats.{equation, bound}
+use Rattle.model.proofs.Repeats.{equation, bound}
 use Rattle.layout.specs.declared.Layout.{Layout}
 use Rattle.layout.specs.declared.StateLayout.{StateLayout}
 use Rattle.layout.specs.declared.Node.{Node}

@@ -20,16 +20,3 @@ pub mod Promises
 -- document 02's, one file a card, and the classes of floats that they speak of
 pub mod Classes
 pub mod Narrowing
--- what follows from them
-pub mod Laws
-pub mod Bench
-pub mod BenchText
-pub mod Wrap
-pub mod Stopping
-pub mod Pauses
-pub mod Joints
-pub mod Pages
-pub mod ExactlyOne
-pub mod Chains
-pub mod Unused
-pub mod Repeats

@@ -1,7 +1,3 @@
--- The steps of demand 3's proof: nothing here needs to be read to know what is claimed
+-- What the steps of demand 3's proof speak of: nothing here needs to be read to know what is claimed
 pub mod Lists
-pub mod Answers
-pub mod Numbers
 pub mod Trees
-pub mod Players
-pub mod Output

@@ -1,9 +1,8 @@
 -- what demand 3 speaks of
 pub mod Alike
 pub mod Trace
--- the claim, and that its premises can be met
+-- the claim; the theorems are in proofs/
 pub mod Demand3
 pub mod Questions
-pub mod Witnesses
--- the steps of its proof
+-- what the steps of its proof speak of
 pub mod Laws

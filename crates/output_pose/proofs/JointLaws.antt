@@ -17,8 +17,8 @@ use Rattle.model.specs.Plan.{max_clip_nodes, joint_count, node_count, is_clip}
 use Rattle.model.specs.Clips.{local_time, instance_at, clip_pose}
 use Rattle.model.specs.Tree.{is_touched, synchronize_node, synchronize_nodes, synchronize, state_pose}
 use Rattle.model.specs.Skeleton.{own_matrix, written}
-use Rattle.model.specs.Laws.State.{a_earlier, few_clip_nodes}
-use Rattle.model.specs.Laws.ClipNodes.{first_clip_node}
+use Rattle.model.proofs.Laws.State.{a_earlier, few_clip_nodes}
+use Rattle.model.proofs.Laws.ClipNodes.{first_clip_node}
 use Rattle.layout.specs.declared.Layout.{Layout}
 use Rattle.layout.specs.declared.StateLayout.{StateLayout}
 use Rattle.layout.specs.declared.Node.{Node}

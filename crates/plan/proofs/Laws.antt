@@ -6,7 +6,7 @@ use mathlib.Core.Path.{◌≡◌, refl, sym, ◌∙◌}
 use Rattle.model.specs.declared.Answer.{Answer}
 use Rattle.model.specs.declared.Answer.TheVariants.{Accepted, Refused}
 use Rattle.model.specs.Answers.{Verdict, accepted, values, ◌then◌, each}
-use Rattle.model.specs.Laws.Answers.{then_accepted, then_refused, each_next, each_stops}
+use Rattle.model.proofs.Laws.Answers.{then_accepted, then_refused, each_next, each_stops}
 
 -- ---- one check after another
 

@@ -15,9 +15,9 @@ use Rattle.model.specs.declared.Answer.TheVariants.{Accepted}
 use Rattle.model.specs.Answers.{Verdict, accepted, refused, values, ◌then◌, each, require}
 use Rattle.model.specs.Plan.{max_nodes, max_clip_nodes, word, kind_at, kind, is_clip, input_a, input_b, node_parameter, clip_node_at}
 use Rattle.model.specs.Check.{word_is, used, check_node}
-use Rattle.model.specs.Laws.Answers.{then_left, then_right, each_stops}
-use Rattle.model.specs.Laws.Tests.{word_true, and_left}
-use Rattle.model.specs.Laws.ClipNodes.{first_clip_node, clip_counts, blend_counts_not}
+use Rattle.model.proofs.Laws.Answers.{then_left, then_right, each_stops}
+use Rattle.model.proofs.Laws.Tests.{word_true, and_left}
+use Rattle.model.proofs.Laws.ClipNodes.{first_clip_node, clip_counts, blend_counts_not}
 use Rattle.plan.specs.declared.words.Counts.{Counts}
 use Rattle.plan.specs.declared.nodes.NodePlace.{NodePlace}
 use Rattle.plan.specs.Parts.{CountsOf, is_free, check_clip_node, check_blend_node, check_node_at, marks_after, clip_node_after, HasInputs, Begins, Marks}

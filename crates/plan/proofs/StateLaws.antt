@@ -12,9 +12,9 @@ use Rattle.model.specs.declared.Answer.TheVariants.{Accepted}
 use Rattle.model.specs.Answers.{Verdict, accepted, values, ◌then◌, each, require}
 use Rattle.model.specs.Plan.{max_nodes, max_transitions, word, state_at, node_count, after_nodes, transition_count_at, transition_count, condition_parameter_at, condition_parameter, operator, target_state}
 use Rattle.model.specs.Check.{word_is, within, used, check_node, check_transition, check_state}
-use Rattle.model.specs.Laws.Answers.{then_accepted}
-use Rattle.model.specs.Laws.Tests.{word_true, within_low, within_high}
-use Rattle.model.specs.Laws.State.{few_nodes, few_transitions}
+use Rattle.model.proofs.Laws.Answers.{then_accepted}
+use Rattle.model.proofs.Laws.Tests.{word_true, within_low, within_high}
+use Rattle.model.proofs.Laws.State.{few_nodes, few_transitions}
 use Rattle.layout.proofs.Laws.{nodes_are, transitions_are, condition_place}
 use Rattle.plan.specs.declared.words.Counts.{Counts}
 use Rattle.plan.specs.Parts.{CountsOf, check_transition_at, Marks}

@@ -12,10 +12,10 @@ use Rattle.model.specs.Answers.{Verdict, accepted, refused, values, ◌then◌}
 use Rattle.model.specs.Text.{max_word}
 use Rattle.model.specs.Plan.{max_joints, max_clips, max_states, max_transitions, clip_count, state_count, sample_count_at, state_at, transition_count, transitions_before, samples_before, poses_at, numbers_length}
 use Rattle.model.specs.Check.{check_header, check}
-use Rattle.model.specs.Laws.Answers.{then_left, then_right, then_accepted, then_refused, each_at}
-use Rattle.model.specs.Laws.State.{state_there, few_transitions}
-use Rattle.model.specs.Laws.Totals.{total_most}
-use Rattle.model.specs.Laws.Header as header
+use Rattle.model.proofs.Laws.Answers.{then_left, then_right, then_accepted, then_refused, each_at}
+use Rattle.model.proofs.Laws.State.{state_there, few_transitions}
+use Rattle.model.proofs.Laws.Totals.{total_most}
+use Rattle.model.proofs.Laws.Header as header
 use Rattle.layout.specs.declared.Layout.{Layout}
 use Rattle.layout.specs.Layout.{layout_of}
 use Rattle.plan.specs.declared.states.States.{States}

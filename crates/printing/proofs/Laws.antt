@@ -15,8 +15,8 @@ use Rattle.model.specs.declared.LineKind.TheVariants.{Joint}
 use Rattle.model.specs.Text.{comma, line_feed, name, overwritten}
 use Rattle.model.specs.Program.{glyph, digits, places, decimal_text, bits_text, decimal_fields, bits_fields}
 use Rattle.model.specs.Program.{refused_line, joint_line, joined}
-use Rattle.model.specs.Laws.Digits.{length_digits}
-use Rattle.model.specs.Laws.Stores.{sets-append}
+use Rattle.model.proofs.Laws.Digits.{length_digits}
+use Rattle.model.proofs.Laws.Stores.{sets-append}
 use Rattle.printing.specs.Written.{Written, Front, float_fields}
 
 -- ---- texts one behind the other

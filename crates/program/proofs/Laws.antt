@@ -20,8 +20,8 @@ use Rattle.model.specs.Skeleton.{written}
 use Rattle.model.specs.Run.{start_verdict, start_player, frame_matrices}
 use Rattle.model.specs.Program.{refused_line, joint_line, played, figure_printed}
 use Rattle.model.specs.Promises.{Started, Framed}
-use Rattle.model.specs.Laws.Output.{matrix_at_lem, frame_length}
-use Rattle.model.specs.Laws.Passed.{initial_below, few_joints}
+use Rattle.model.proofs.Laws.Output.{matrix_at_lem, frame_length}
+use Rattle.model.proofs.Laws.Passed.{initial_below, few_joints}
 use Rattle.printing.specs.Written.{joint_lines}
 use Rattle.printing.proofs.Laws.{joined_same}
 

@@ -17,9 +17,9 @@ use Rattle.model.specs.Text.{Reading, bad, got, read_figure, floats_of, overwrit
 use Rattle.model.specs.Text.{accepted, refused, text_values, text_verdict, when_accepted}
 use Rattle.model.specs.Program.{refused_line, printed_from, max_text, max_numbers, printed_by}
 use Rattle.model.specs.Promises.{TextRead}
-use Rattle.model.specs.Laws.Reading.{figure_fits}
+use Rattle.model.proofs.Laws.Reading.{figure_fits}
 use Rattle.printing.proofs.Laws.{front_length, front_is}
-use Rattle.round_trip.specs.Theorems.{words_most}
+use Rattle.round_trip.proofs.Theorems.{words_most}
 use Rattle.program_text.specs.ProgramText.{reading_verdict, program_verdict, ProgramTextRead}
 
 -- ---- reading

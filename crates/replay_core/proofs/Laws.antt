@@ -25,9 +25,9 @@ use Rattle.model.specs.Skeleton.{flat, written}
 use Rattle.model.specs.Program.{joint_line, joined}
 use Rattle.model.specs.Run.{frame_matrices, Call, Frame, Loops, call_verdict, changed, after, chosen_floats, told, observation}
 use Rattle.model.specs.Promises.{Started, Framed, LoopsCounted}
-use Rattle.model.specs.Laws.Answers.{then_left, unless_same}
-use Rattle.model.specs.Laws.Output.{matrix_at_lem, frame_length}
-use Rattle.model.specs.Laws.Passed.{few_joints}
+use Rattle.model.proofs.Laws.Answers.{then_left, unless_same}
+use Rattle.model.proofs.Laws.Output.{matrix_at_lem, frame_length}
+use Rattle.model.proofs.Laws.Passed.{few_joints}
 use Rattle.printing.specs.Written.{Written, joint_lines}
 use Rattle.printing.proofs.Laws.{more_written, front_written, joined_same}
 use Rattle.calls.specs.declared.Call as Read

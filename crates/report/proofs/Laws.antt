@@ -7,7 +7,7 @@ use Rattle.model.specs.declared.ClipInstance.{ClipInstance}
 use Rattle.model.specs.Text.{line_feed}
 use Rattle.model.specs.Program.{decimal_fields, joint_line, joined}
 use Rattle.model.specs.Table.{table_to}
-use Rattle.model.specs.Laws.Table.{table_length, table_at}
+use Rattle.model.proofs.Laws.Table.{table_length, table_at}
 use Rattle.printing.specs.Written.{Written, float_fields}
 use Rattle.printing.proofs.Laws.{more_written, floats_written, joined_same}
 use Rattle.report.specs.Report.{told_text, instance_line, matrix_lines, below}

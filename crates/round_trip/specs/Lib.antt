@@ -1,8 +1,3 @@
--- what the claims speak of
+-- what the claims speak of; the theorems are in proofs/
 pub mod Counted
 pub mod RoundTrip
--- the claims, and that their premises can be met
-pub mod Theorems
-pub mod Witness
--- the steps of their proofs
-pub mod Laws

@@ -17,8 +17,8 @@ use Rattle.model.specs.Pose.{to_matrix}
 use Rattle.model.specs.Plan.{joint_count, parent, is_root, output_at}
 use Rattle.model.specs.Table.{table_to}
 use Rattle.model.specs.Skeleton.{own_matrix, parent_matrix, joint_matrix, joint_matrices, flat}
-use Rattle.model.specs.Laws.Table.{table_length}
-use Rattle.model.specs.Laws.Passed.{parent_earlier}
+use Rattle.model.proofs.Laws.Table.{table_length}
+use Rattle.model.proofs.Laws.Passed.{parent_earlier}
 use Rattle.layout.specs.Layout.{Passes}
 use Rattle.lanes.specs.Lanes.{lane_at}
 use Rattle.skeleton.specs.Buffer.{row_from, matrix_from, row_floats, stored, parent_in, joints_written, own_matrices, own_behind, OwnMatrices, Multiplied, GlobalPoses}

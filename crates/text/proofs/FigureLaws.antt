@@ -13,7 +13,7 @@ use denote.Enum.Declared.{tag_of}
 use Rattle.model.specs.declared.LineKind.TheVariants.{Clip, State, Node, Go}
 use Rattle.model.specs.Text.{max_word, front, forms, line_in, words_in, bits_in, Reading, bad, got, prefixed, and_then, times, read_line, from_state, read_state, read_end, read_words, samples_in}
 use Rattle.model.specs.Plan.{max_joints, max_clips, max_samples, clip_words, total}
-use Rattle.model.specs.Laws.Totals.{total_same}
+use Rattle.model.proofs.Laws.Totals.{total_same}
 use Rattle.text.specs.declared.lines.LineEnd.{LineEnd}
 use Rattle.text.specs.declared.put.Progress.{Progress}
 use Rattle.text.specs.declared.put.Step.{Step}

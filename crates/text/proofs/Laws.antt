@@ -14,7 +14,7 @@ use Rattle.model.specs.Text.{Reading, bad, got, prefixed, and_then, times, float
 use Rattle.text.specs.declared.put.Progress.{Progress}
 use Rattle.text.specs.declared.put.Step.{Step}
 use Rattle.text.specs.declared.put.Step.TheVariants.{Next, Malformed}
-use Rattle.model.specs.Laws.Stores.{sets-append}
+use Rattle.model.proofs.Laws.Stores.{sets-append}
 use Rattle.text.specs.Steps.{InText, behind_line, with_word, Put, Moved, ReadAs}
 use Rattle.text.specs.contracts.put.Step.{the_type as step-type}
 

@@ -11,7 +11,7 @@ use Rattle.model.specs.declared.Transition.TheVariants.{Idle, Running}
 use Rattle.model.specs.declared.Winner.{Winner}
 use Rattle.model.specs.declared.Winner.TheVariants.{At, Nothing}
 use Rattle.model.specs.Controller.{condition_holds, first_passing, winner, started_by, is_ended, step_from}
-use Rattle.model.specs.Laws.Steps.{winner_had}
+use Rattle.model.proofs.Laws.Steps.{winner_had}
 use Rattle.layout.specs.declared.StateLayout.{StateLayout}
 use Rattle.layout.specs.Layout.{InPlan}
 use Rattle.layout.proofs.Laws.{transitions_counted}

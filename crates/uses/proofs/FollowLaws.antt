@@ -13,10 +13,10 @@ use Rattle.model.specs.declared.Answer.TheVariants.{Accepted}
 use Rattle.model.specs.Plan.{max_states, max_parameters, max_clips, state_count, initial_state, target_state}
 use Rattle.model.specs.Uses.{is_marked, leads_to, reads, plays, state_marks, parameter_marks, clip_marks, UsedWithin}
 use Rattle.model.specs.Unseen.{Reachable, initial, target}
-use Rattle.model.specs.Laws.Marks.{or_cases, or_first, or_second, same_test, unlike, marks_length, count, one_more, all_counted}
-use Rattle.model.specs.Laws.Tests.{and_left, and_right, not_true}
-use Rattle.model.specs.Laws.Passed.{few_states, initial_below, reachable_below}
-use Rattle.model.specs.Laws.Reached.{chain_reachable, leads_at, leads_reachable, state_marks_length, marked_reachable, reachable_marked, marked_reader, marked_player, read_by, played_by}
+use Rattle.model.proofs.Laws.Marks.{or_cases, or_first, or_second, same_test, unlike, marks_length, count, one_more, all_counted}
+use Rattle.model.proofs.Laws.Tests.{and_left, and_right, not_true}
+use Rattle.model.proofs.Laws.Passed.{few_states, initial_below, reachable_below}
+use Rattle.model.proofs.Laws.Reached.{chain_reachable, leads_at, leads_reachable, state_marks_length, marked_reachable, reachable_marked, marked_reader, marked_player, read_by, played_by}
 use Rattle.layout.specs.Layout.{Passes}
 use Rattle.uses.specs.Marking.{Marked, is_open, FirstOpen, MarksOf}
 use Rattle.uses.proofs.Laws.{marked_one}

@@ -19,7 +19,7 @@ use Rattle.model.specs.Run.{start_verdict}
 use Rattle.model.specs.Promises.{UsesFound}
 use Rattle.model.specs.Plan.{initial_state, max_states, max_parameters, max_clips, node_count, is_clip, transition_count, condition_parameter, target_state}
 use Rattle.model.specs.Uses.{marks, is_marked, any_below, leads_to, node_reads, blends_by, asks_for, reads, node_plays, plays}
-use Rattle.model.specs.Laws.Passed.{few_clips, few_states}
+use Rattle.model.proofs.Laws.Passed.{few_clips, few_states}
 use Rattle.layout.specs.declared.Layout.{Layout}
 use Rattle.layout.specs.declared.StateLayout.{StateLayout}
 use Rattle.layout.specs.declared.Node.{Node}

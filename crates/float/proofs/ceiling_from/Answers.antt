@@ -3,7 +3,7 @@ use Rattle.std.proofs.Common.{◌≡◌, ◌+◌, ◌^◌, ◌≤◌, cond, pos,
 use denote.Floats.{passes}
 use lib.Ieee.{binary32, of_bits, lt, of_int, in_float, to_unsigned}
 use Rattle.model.specs.Numbers.{ceiling_index}
-use Rattle.model.specs.Laws.Wholes.{floor_is}
+use Rattle.model.proofs.Laws.Wholes.{floor_is}
 use Rattle.float.proofs.Index.{small_index, ceiling_small, ceiling_large}
 use Rattle.float.proofs.ceiling_from.Goals as goal
 use Rattle.float.proofs.ceiling_from.Goals.{Start, Then-x}

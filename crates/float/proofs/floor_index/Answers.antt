@@ -2,7 +2,7 @@
 use Rattle.std.proofs.Common.{sym, ◌∙◌}
 use denote.Floats.{passes}
 use lib.Ieee.{of_bits, neg}
-use Rattle.model.specs.Laws.Wholes.{floor_is}
+use Rattle.model.proofs.Laws.Wholes.{floor_is}
 use Rattle.float.proofs.Index.{index_low, index_high}
 use Rattle.float.proofs.floor_index.Goals as goal
 

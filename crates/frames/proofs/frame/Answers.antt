@@ -1,7 +1,7 @@
 -- `frames::frame` meets its contract: a refusal of the check or of the player is handed on, else the frame is played. Assumes nothing.
 use borrow.Author.Rules.{rules}
 use native.Mathlib.Omega.{arith}
-use Rattle.model.specs.Laws.Passed.{few_joints}
+use Rattle.model.proofs.Laws.Passed.{few_joints}
 use Rattle.layout.proofs.Laws.{joints_found}
 use Rattle.blend_tree.specs.Blocks.{Playable}
 use Rattle.frames.proofs.Laws.{playable, check_handed, frame_handed, now_accepted, frame_state, frame_target, frame_fits, frame_accepted}

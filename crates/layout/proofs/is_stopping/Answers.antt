@@ -2,7 +2,7 @@
 use borrow.Author.Rules.{rules}
 use mathlib.Core.Path.{◌≡◌}
 use Rattle.model.specs.Plan.{sample_count_at, ending_at, ending, is_stopping}
-use Rattle.model.specs.Laws.Passed.{ending_there}
+use Rattle.model.proofs.Laws.Passed.{ending_there}
 use Rattle.layout.proofs.Laws.{joints_found, clip_small, place_fits}
 use Rattle.layout.proofs.is_stopping.Goals as goal
 use Rattle.layout.proofs.is_stopping.Goals.{After-sample_count_at}

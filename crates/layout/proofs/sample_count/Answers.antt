@@ -1,7 +1,7 @@
 -- `layout::sample_count` meets its contract: the check has seen that the word is there. Assumes nothing.
 use mathlib.Core.Path.{◌≡◌, ap, ◌∙◌}
 use Rattle.model.specs.Plan.{word, sample_count_at, sample_count}
-use Rattle.model.specs.Laws.Passed.{sample_count_there}
+use Rattle.model.proofs.Laws.Passed.{sample_count_there}
 use Rattle.layout.proofs.Laws.{joints_found, clip_small}
 use Rattle.layout.proofs.sample_count.Goals as goal
 use Rattle.layout.proofs.sample_count.Goals.{After-sample_count_at}

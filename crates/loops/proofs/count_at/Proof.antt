@@ -8,7 +8,7 @@ use Rattle.model.specs.Plan.{state_count, clip_count, is_clip, input_a}
 use Rattle.model.specs.Numbers.{floor_index}
 use Rattle.model.specs.Loops.{is_clip_node}
 use Rattle.layout.specs.Layout.{InPlan}
-use Rattle.model.specs.Laws.State.{few_clip_nodes}
+use Rattle.model.proofs.Laws.State.{few_clip_nodes}
 use Rattle.layout.proofs.Laws.{states_found, in_plan, here_ok}
 use Rattle.layout.proofs.NodeLaws.{NodeRead, is_clip_lem, clip_inside, node_counted}
 use Rattle.blend_tree.specs.Sampling.{Sized}

@@ -2,7 +2,7 @@
 use Prim.Native.Nat.{◌-◌}
 use native.Mathlib.Omega.{arith}
 use lib.ListN.{length}
-use Rattle.model.specs.Laws.Passed.{few_joints}
+use Rattle.model.proofs.Laws.Passed.{few_joints}
 use Rattle.layout.proofs.Laws.{joints_found}
 use Rattle.output_pose.specs.Shown.{shown_pose}
 use Rattle.output_pose.proofs.Laws.{Through, through}

@@ -6,7 +6,7 @@ use mathlib.Core.List.{List}
 use Rattle.model.specs.Answers.{accepted, values, ◌then◌, each}
 use Rattle.model.specs.Plan.{max_states_at, joint_count, clip_count, parameter_count, state_count, sample_count_at, state_at, plan_end}
 use Rattle.model.specs.Check.{check_header, check_parent, check_clip}
-use Rattle.model.specs.Laws.Header as header
+use Rattle.model.proofs.Laws.Header as header
 use Rattle.plan.specs.Parts.{check_words}
 use Rattle.plan.proofs.Laws.{stops, goes, passed}
 use Rattle.plan.proofs.Worded.{words_refuse}

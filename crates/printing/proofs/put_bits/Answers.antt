@@ -1,6 +1,6 @@
 -- `printing::put_bits` meets its contract: 8 hexadecimal digits are the definition's field. Assumes nothing.
 use native.Mathlib.Omega.{arith}
-use Rattle.model.specs.Laws.Digits.{length_digits}
+use Rattle.model.proofs.Laws.Digits.{length_digits}
 use Rattle.printing.proofs.Laws.{float_written}
 use Rattle.printing.proofs.put_bits.Goals as goal
 

@@ -2,7 +2,7 @@
 use mathlib.Core.List.{append-nil}
 use native.Mathlib.Omega.{arith}
 use Rattle.model.specs.Program.{decimal_text, decimal_fields}
-use Rattle.model.specs.Laws.Digits.{length_digits}
+use Rattle.model.proofs.Laws.Digits.{length_digits}
 use Rattle.printing.proofs.put_decimal.Goals as goal
 
 pub returns : goal.returns

@@ -7,7 +7,7 @@ use Rattle.model.specs.Run as Run
 use Rattle.model.specs.Run.{call_verdict, changed, after, chosen_floats, told}
 use Rattle.calls.specs.Read.{line_of}
 use Rattle.report.specs.Report.{told_values}
-use Rattle.model.specs.Laws.Answers.{unless_same}
+use Rattle.model.proofs.Laws.Answers.{unless_same}
 use Rattle.replay_core.proofs.Laws.{nothing_done, loops_done_lem, called, malformed_called}
 use Rattle.replay_core.proofs.call_done.Statement.{statement}
 use Rattle.replay_core.proofs.call_done.Tie as tie

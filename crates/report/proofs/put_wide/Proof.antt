@@ -1,7 +1,7 @@
 -- `report::put_wide` meets its contract: 16 hexadecimal digits are the definition's field. Assumes nothing.
 use borrow.Author.Rules.{rules}
 use native.Mathlib.Omega.{arith}
-use Rattle.model.specs.Laws.Digits.{length_digits}
+use Rattle.model.proofs.Laws.Digits.{length_digits}
 use Rattle.report.proofs.put_wide.Statement.{statement}
 use Rattle.report.proofs.put_wide.Tie as tie
 

@@ -1,6 +1,6 @@
 -- `skeleton::calculate_global_poses` meets its contract: one loop after the other. Assumes nothing.
 use native.Mathlib.Omega.{arith}
-use Rattle.model.specs.Laws.Passed.{few_joints}
+use Rattle.model.proofs.Laws.Passed.{few_joints}
 use Rattle.skeleton.proofs.Laws.{own_then_product}
 use Rattle.skeleton.proofs.calculate_global_poses.Goals as goal
 

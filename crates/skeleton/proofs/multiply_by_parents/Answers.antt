@@ -2,7 +2,7 @@
 use Prim.Native.Nat.{◌+◌}
 use mathlib.Core.Path.{◌≡◌, refl, ◌∙◌}
 use native.Mathlib.Omega.{arith}
-use Rattle.model.specs.Laws.Passed.{few_joints, parent_there, root_by_parent}
+use Rattle.model.proofs.Laws.Passed.{few_joints, parent_there, root_by_parent}
 use Rattle.skeleton.proofs.Laws.{through_none, through_next, through_all}
 use Rattle.skeleton.proofs.multiply_by_parents.Goals as goal
 

@@ -3,7 +3,7 @@
 use Prim.Native.Nat.{◌<◌}
 use native.Mathlib.Omega.{arith}
 use Rattle.model.specs.Plan.{state_count}
-use Rattle.model.specs.Laws.Passed.{few_states, initial_below}
+use Rattle.model.proofs.Laws.Passed.{few_states, initial_below}
 use Rattle.layout.proofs.Laws.{states_found}
 use Rattle.uses.proofs.Laws.{initial_found}
 use Rattle.uses.proofs.FollowLaws.{following_first, following_next, none_open, all_followed, marks_found}

@@ -2,7 +2,7 @@
 use borrow.Author.Rules.{rules}
 use native.Mathlib.Omega.{arith}
 use lib.ListN.{length}
-use Rattle.model.specs.Laws.Passed.{few_joints, sample_count_there}
+use Rattle.model.proofs.Laws.Passed.{few_joints, sample_count_there}
 use Rattle.layout.proofs.Laws.{joints_found}
 use Rattle.blend_tree.specs.Sampling.{clip_of}
 use Rattle.blend_tree.proofs.NodeLaws.{passes}

@@ -4,7 +4,7 @@ use mathlib.Core.Path.{◌≡◌, ◌∙◌}
 use native.Mathlib.Numerals.{add-one}
 use native.Mathlib.Omega.{arith}
 use Rattle.model.specs.Plan.{clip_node_at}
-use Rattle.model.specs.Laws.ClipNodes.{first_clip_node}
+use Rattle.model.proofs.Laws.ClipNodes.{first_clip_node}
 use Rattle.layout.proofs.Laws.{clips_counted}
 use Rattle.blend_tree.proofs.SynchronizeLaws.{few_next}
 use Rattle.blend_tree.proofs.synchronize.clip_node.Given as goal

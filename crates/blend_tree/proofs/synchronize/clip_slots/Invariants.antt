@@ -7,7 +7,7 @@ use native.Mathlib.Numerals.{add-one}
 use native.Mathlib.Omega.{arith}
 use lib.ListN.{length, get_or, length-set}
 use Rattle.model.specs.Plan.{max_nodes, max_clip_nodes, clip_node_at}
-use Rattle.model.specs.Laws.ClipNodes.{first_clip_node}
+use Rattle.model.proofs.Laws.ClipNodes.{first_clip_node}
 use Rattle.layout.proofs.Laws.{nodes_counted, clips_counted, nodes_few}
 use Rattle.blend_tree.proofs.SynchronizeLaws.{filled_more, few_next}
 use Rattle.blend_tree.proofs.synchronize.clip_slots.Given as goal

@@ -3,7 +3,7 @@ use borrow.Author.Rules.{rules}
 use mathlib.Core.Path.{◌∙◌, ap}
 use Prim.Native.Nat.{◌+◌}
 use native.Mathlib.Omega.{arith}
-use Rattle.model.specs.Laws.ClipNodes.{clip_counts, blend_counts_not}
+use Rattle.model.proofs.Laws.ClipNodes.{clip_counts, blend_counts_not}
 use Rattle.layout.proofs.NodeLaws.{is_clip_lem, no_clip}
 use Rattle.blend_tree.proofs.synchronize.next_clip_node.Goals as goal
 
