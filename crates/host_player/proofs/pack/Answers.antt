@@ -1,0 +1,5 @@
+-- `host_player::pack` meets its contract: the parts, packed, with the player's arrays. Assumes nothing.
+use Rattle.host_player.proofs.pack.Goals as goal
+
+pub returns : goal.returns
+returns c = c.pack_parts-parts.ensures _ _
