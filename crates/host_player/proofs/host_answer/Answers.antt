@@ -1,4 +1,5 @@
 -- `host_player::host_answer` meets its contract, by the case of the answer. Assumes nothing.
+use borrow.Author.Rules.{rules}
 use Rattle.model.specs.Answers.{values}
 use Rattle.host_player.specs.HostPlayer.{host_answer}
 use Rattle.host_player.proofs.host_answer.Goals as goal

@@ -1,4 +1,5 @@
 -- `host_player::host_frame` meets its contract, by the case of the answer. Assumes nothing.
+use borrow.Author.Rules.{rules}
 use Rattle.host_player.proofs.Laws.{frame_accepted, frame_refused}
 use Rattle.host_player.proofs.host_frame.Goals as goal
 

@@ -1,4 +1,5 @@
 -- `host_player::host_text_answer` meets its contract, by the case of the answer. Assumes nothing.
+use borrow.Author.Rules.{rules}
 use Rattle.model.specs.Text.{text_values}
 use Rattle.host_player.specs.HostPlayer.{host_text_answer}
 use Rattle.host_player.proofs.host_text_answer.Goals as goal

@@ -1,4 +1,5 @@
 -- `host_player::pack_parts` meets its contract, by the case of the transition. Assumes nothing.
+use borrow.Author.Rules.{rules}
 use lib.Ieee.{of_bits}
 use Rattle.host_player.specs.HostPlayer.{packed, packed_as, packed_with}
 use Rattle.host_player.proofs.pack_parts.Goals as goal

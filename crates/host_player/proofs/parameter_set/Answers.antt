@@ -1,5 +1,6 @@
 -- `host_player::parameter_set` meets its contract: the outcome of `controller::set` on the player that the flat one stands for. Assumes nothing.
 use mathlib.Core.Path.{subst}
+use borrow.Author.Rules.{rules}
 use Rattle.model.specs.declared.Player.{Player}
 use Rattle.model.specs.Promises.{ParameterSet}
 use Rattle.host_player.proofs.Laws.{set_refused, set_accepted}

@@ -1,5 +1,6 @@
 -- `host_player::started` meets its contract: the outcome of `controller::start`, made flat. Assumes nothing.
 use mathlib.Core.Path.{ap, ◌∙◌}
+use borrow.Author.Rules.{rules}
 use Rattle.host_player.specs.HostPlayer.{packed, host_answer}
 use Rattle.host_player.proofs.started.Goals as goal
 

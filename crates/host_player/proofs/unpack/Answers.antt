@@ -1,4 +1,5 @@
 -- `host_player::unpack` meets its contract: the parts, unpacked, with the player's arrays. Assumes nothing.
+use borrow.Author.Rules.{rules}
 use Rattle.host_player.proofs.unpack.Goals as goal
 
 pub returns : goal.returns

@@ -1,4 +1,5 @@
 -- `host_player::updated` meets its contract: `controller::update` between `unpack` and `pack`. Assumes nothing.
+use borrow.Author.Rules.{rules}
 use Rattle.model.specs.declared.Player.{Player}
 use Rattle.model.specs.Controller.{updated}
 use Rattle.host_player.proofs.Laws.{between}

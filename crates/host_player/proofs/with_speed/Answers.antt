@@ -1,4 +1,5 @@
 -- `host_player::with_speed` meets its contract: `controller::speed` between `unpack` and `pack`. Assumes nothing.
+use borrow.Author.Rules.{rules}
 use Rattle.model.specs.declared.Player.{Player}
 use Rattle.model.specs.Controller.{with_speed}
 use Rattle.host_player.proofs.Laws.{between}
