@@ -21,7 +21,7 @@ pub mod nodes;
 pub mod states;
 pub mod words;
 
-#[derive(Drop)]
+#[derive(Clone, Copy)]
 pub enum Checked {
     Passed(Layout),
     Refused(Refusal),

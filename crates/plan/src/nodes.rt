@@ -24,7 +24,7 @@ pub struct NodePlace {
 }
 
 // What the check of a state's nodes comes to: the answer, and the marks beside it.
-#[derive(Drop)]
+#[derive(Clone, Copy)]
 pub struct Nodes {
     pub answer: Answer,
     pub used: [bool; MARKS],

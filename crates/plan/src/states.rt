@@ -13,7 +13,7 @@ use model::limits::{MAX_NODES, MAX_TRANSITIONS};
 
 // What the check of all states comes to: the answer, and beside it the word after the last state and the count of
 // transitions.
-#[derive(Drop)]
+#[derive(Clone, Copy)]
 pub struct States {
     pub answer: Answer,
     pub end: usize,

@@ -8,12 +8,8 @@ use Rattle.model.specs.declared.Transition.TheVariants.{Idle}
 use Rattle.model.specs.Numbers.{0f, 1f}
 use Rattle.model.specs.Plan.{max_parameters}
 use Rattle.model.specs.Controller.{blank}
-use Rattle.controller.proofs.blank.Statement.{statement}
-use Rattle.controller.proofs.blank.Tie as tie
+use Rattle.controller.proofs.blank.Goals as goal
 
-returns : tie.Need-returns
+pub returns : goal.returns
 unfolding blank of_bits
-returns c = ap (λ (i : List Float). record { clock = 0f; speed = 1f; state = 0; transition = Idle; parameters = replicate max_parameters 0f; instances = i }) c.blank-instances.ensures
-
-pub blank-spec : {M : Type 1} → statement M
-blank-spec = tie.close (tie.spec (search rules) returns)
+returns c = ap (λ (i : List Float). record { clock = 0f; speed = 1f; state = 0; transition = Idle; parameters = replicate max_parameters 0f; instances = i }) c.blank_instances-instances.ensures

@@ -1,0 +1,24 @@
+-- `controller::blank_instances` meets its contract. Invariant: the first n instances are blank, and zeros follow. Assumes nothing.
+use borrow.Author.Rules.{rules}
+use Prim.Native.Nat.{◌*◌, ◌-◌, ◌≤◌}
+use native.Mathlib.Omega.{arith}
+use mathlib.Core.Path.{◌≡◌, refl, ◌∙◌}
+use mathlib.Core.List.{◌++◌, append-nil}
+use lib.ListN.{replicate}
+use Rattle.model.specs.Numbers.{0f}
+use Rattle.model.specs.Plan.{max_clip_nodes}
+use Rattle.model.specs.Clips.{blank_instances}
+use Rattle.controller.proofs.Laws.{blank_next}
+use Rattle.controller.proofs.blank_instances.Goals as goal
+
+pub loop-n-init : goal.loop-n-init
+unfolding blank_instances
+loop-n-init c = (omega arith, refl)
+
+pub loop-n-preserved : goal.loop-n-preserved
+loop-n-preserved c = (omega (arith, c.loop-n-test.true), blank_next _ _ c.loop-n-test.true c.loop-n.invariant.1)
+
+pub returns : goal.returns
+returns c =
+    let e : c.loop-n.n ≡ max_clip_nodes = omega arith in
+    rw e at c.loop-n.invariant.1 ∙ append-nil (blank_instances max_clip_nodes)

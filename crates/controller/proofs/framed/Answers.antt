@@ -1,0 +1,6 @@
+-- `controller::framed` meets its contract: that of `frames::frame`, on the player that its parts make up. Assumes nothing.
+use borrow.Author.Rules.{rules}
+use Rattle.controller.proofs.framed.Goals as goal
+
+pub returns : goal.returns
+returns c = rw c.outcome.ensures c.frame-done.ensures
