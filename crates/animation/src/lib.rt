@@ -13,7 +13,7 @@ use model::{ClipInstance, Pose, Quaternion, Vector3};
 use transform::lerp;
 
 // The samples on either side of a position, and how far it is past the first.
-#[derive(Drop)]
+#[derive(Clone, Copy)]
 pub struct Position {
     pub first: usize,
     pub second: usize,

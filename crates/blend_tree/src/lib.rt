@@ -9,7 +9,7 @@ pub mod sampling;
 pub mod synchronize;
 
 // A state of a plan, at a time.
-#[derive(Drop)]
+#[derive(Clone, Copy)]
 pub struct StateAt {
     pub layout: Layout,
     pub here: StateLayout,
@@ -17,7 +17,7 @@ pub struct StateAt {
 }
 
 // A row of joints.
-#[derive(Drop)]
+#[derive(Clone, Copy)]
 pub struct Joints {
     pub first: usize,
     pub count: usize,

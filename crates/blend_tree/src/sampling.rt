@@ -9,7 +9,7 @@ use layout::{Layout, is_stopping, pose_at, rate, sample_count, samples_before};
 use model::{ClipInstance, Pose};
 
 // A clip of a plan: how many samples it has, how many the clips before it have, whether it stops, and its rate.
-#[derive(Drop)]
+#[derive(Clone, Copy)]
 pub struct Clip {
     pub samples: usize,
     pub before: usize,

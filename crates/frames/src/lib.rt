@@ -22,7 +22,7 @@ use skeleton::output_at;
 use transitions::{Stepped, step};
 
 // What a frame reads of a player beside its arrays.
-#[derive(Drop)]
+#[derive(Clone, Copy)]
 pub struct Parts {
     pub clock: f64,
     pub speed: f64,
@@ -31,7 +31,7 @@ pub struct Parts {
 }
 
 // The answer, and the parts that a frame hands back; the instances are changed where they are.
-#[derive(Drop)]
+#[derive(Clone, Copy)]
 pub struct FrameParts {
     pub answer: Answer,
     pub state: usize,

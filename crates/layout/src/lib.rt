@@ -44,7 +44,7 @@ pub const MAX_PLAN: usize = PARENTS_AT
     + MAX_STATES * (2 + NODE_WORDS * MAX_NODES + TRANSITION_WORDS * MAX_TRANSITIONS);
 
 // What the check finds in a plan that passes.
-#[derive(Drop)]
+#[derive(Clone, Copy)]
 pub struct Layout {
     pub joints: usize,
     pub clips: usize,
@@ -57,7 +57,7 @@ pub struct Layout {
 }
 
 // One state of such a plan.
-#[derive(Drop)]
+#[derive(Clone, Copy)]
 pub struct StateLayout {
     pub state: usize,
     pub nodes_at: usize,
@@ -70,7 +70,7 @@ pub struct StateLayout {
     pub clip_node: usize,
 }
 
-#[derive(Drop)]
+#[derive(Clone, Copy)]
 pub struct Node {
     pub kind: usize,
     pub a: usize,
@@ -78,7 +78,7 @@ pub struct Node {
     pub parameter: usize,
 }
 
-#[derive(Drop)]
+#[derive(Clone, Copy)]
 pub struct Condition {
     pub parameter: usize,
     pub operator: usize,
@@ -86,7 +86,7 @@ pub struct Condition {
 }
 
 // What a transition's condition compares with, and how long the transition takes.
-#[derive(Drop)]
+#[derive(Clone, Copy)]
 pub struct TransitionNumbers {
     pub value: f32,
     pub duration: f32,

@@ -118,7 +118,7 @@ pub fn quaternion_to_matrix(q: Quaternion) -> Matrix4
 
 // A quaternion that half the inverse root of t is yet to scale. matrix_to_quaternion takes that root once, after its
 // tests.
-#[derive(Drop)]
+#[derive(Clone, Copy)]
 struct Unscaled {
     t: f32,
     q: Quaternion,

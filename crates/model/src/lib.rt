@@ -8,14 +8,14 @@ use crate::limits::{MAX_CLIPS, MAX_INSTANCES, MAX_PARAMETERS, MAX_STATES};
 
 pub mod limits;
 
-#[derive(Drop)]
+#[derive(Clone, Copy)]
 pub struct Vector3 {
     pub x: f32,
     pub y: f32,
     pub z: f32,
 }
 
-#[derive(Drop)]
+#[derive(Clone, Copy)]
 pub struct Quaternion {
     pub w: f32,
     pub x: f32,
@@ -24,7 +24,7 @@ pub struct Quaternion {
 }
 
 // The Rust's QVTransform: eight floats in three parts.
-#[derive(Drop)]
+#[derive(Clone, Copy)]
 pub struct Pose {
     pub translation: Vector3,
     pub scale: f32,
@@ -32,7 +32,7 @@ pub struct Pose {
 }
 
 // A row of a matrix: `m.r1.c2` is the Rust's `m[1][2]`.
-#[derive(Drop)]
+#[derive(Clone, Copy)]
 pub struct Row {
     pub c0: f32,
     pub c1: f32,
@@ -40,7 +40,7 @@ pub struct Row {
     pub c3: f32,
 }
 
-#[derive(Drop)]
+#[derive(Clone, Copy)]
 pub struct Matrix4 {
     pub r0: Row,
     pub r1: Row,
@@ -49,7 +49,7 @@ pub struct Matrix4 {
 }
 
 // What the Rust's ClipInstance holds beside its clip: start time, playback rate and time offset.
-#[derive(Drop)]
+#[derive(Clone, Copy)]
 pub struct ClipInstance {
     pub start: f32,
     pub rate: f32,
@@ -57,7 +57,7 @@ pub struct ClipInstance {
 }
 
 // A player's 'transition': none is under way, or one that began at `start` leads to a state and takes `duration` seconds.
-#[derive(Drop)]
+#[derive(Clone, Copy)]
 pub enum Transition {
     Idle,
     Running {
@@ -68,7 +68,7 @@ pub enum Transition {
 }
 
 // The instances are so many times start, rate and offset in one array, so that they can be lent without a copy.
-#[derive(Drop)]
+#[derive(Clone, Copy)]
 pub struct Player {
     pub clock: f64,
     pub speed: f64,
@@ -80,7 +80,7 @@ pub struct Player {
 
 // The cases of narrowing a 64-bit pattern to 32 bits, by IEEE 754 (document 02, Card 4). A finite one goes by its rounded result; what Normal and
 // Subnormal hold is that result's pattern without its sign.
-#[derive(Drop)]
+#[derive(Clone, Copy)]
 pub enum Narrowed {
     Nan,
     Infinite,
@@ -92,27 +92,27 @@ pub enum Narrowed {
 }
 
 // Which of a state's transitions wins, by its number.
-#[derive(Drop)]
+#[derive(Clone, Copy)]
 pub enum Winner {
     At(usize),
     Nothing,
 }
 
 // Of a frame: what each joint's own matrix is, before its parent's is multiplied on.
-#[derive(Drop)]
+#[derive(Clone, Copy)]
 pub enum FrameKind {
     Ordinary,
     Page,
 }
 
 // A refusal's number and place, as document 01 lists them.
-#[derive(Drop)]
+#[derive(Clone, Copy)]
 pub struct Refusal {
     pub number: usize,
     pub place: usize,
 }
 
-#[derive(Drop)]
+#[derive(Clone, Copy)]
 pub enum Answer {
     Accepted,
     Refused(Refusal),
@@ -125,7 +125,7 @@ pub fn refused(number: usize, place: usize) -> Answer
 }
 
 // An answer with the player to go on with.
-#[derive(Drop)]
+#[derive(Clone, Copy)]
 pub struct Outcome {
     pub answer: Answer,
     pub player: Player,
@@ -133,7 +133,7 @@ pub struct Outcome {
 
 // What a figure can use (document 02, Card 3): a mark for each state that is reachable, each parameter that such a state reads and each clip that it plays.
 // Marks behind the figure's own states, parameters and clips are false, and all are where the figure is refused.
-#[derive(Drop)]
+#[derive(Clone, Copy)]
 pub struct Uses {
     pub answer: Answer,
     pub states: [bool; MAX_STATES],
@@ -143,7 +143,7 @@ pub struct Uses {
 
 // How many whole loops a clip node's clip has played, and how many samples of the next (document 02, Card 7). Both are 0 where
 // the question is refused.
-#[derive(Drop)]
+#[derive(Clone, Copy)]
 pub struct LoopCount {
     pub answer: Answer,
     pub loops: usize,
@@ -153,7 +153,7 @@ pub struct LoopCount {
 // ---- text
 
 // The seven kinds of line.
-#[derive(Drop)]
+#[derive(Clone, Copy)]
 pub enum LineKind {
     Figure,
     Joint,
@@ -165,14 +165,14 @@ pub enum LineKind {
 }
 
 // What a field holds: a decimal up to a limit, or a float's bits.
-#[derive(Drop)]
+#[derive(Clone, Copy)]
 pub enum FieldForm {
     Decimal { limit: u16 },
     Bits,
 }
 
 // The reader's answer: how many words and numbers it wrote, or a refusal.
-#[derive(Drop)]
+#[derive(Clone, Copy)]
 pub enum TextAnswer {
     Accepted { words: usize, numbers: usize },
     Refused(Refusal),

@@ -82,7 +82,8 @@ module _ (plan chosen : List ℕ) (a b : List Float) (ok : check plan (length a)
   from_same : (p q : Player) → LowEquivalent plan p q → {cs ds : List Call} → AlikeCalls plan cs ds → told_from plan a p cs ≡ told_from plan b q ds
   unfolding told_from
   from_same p q h none = refl
-  from_same p q h (next k ks) = rw (told_same p q h k, from_same _ _ (after_equivalent plan chosen a b ok closed alike p q h k) ks)
+  from_same p q h (next {c = c} {d = d} {cs = cs} {ds = ds} k ks) =
+      rw (told_same p q h k, from_same (after plan a p c) (after plan b q d) (after_equivalent plan chosen a b ok closed alike p q h k) ks)
 
 -- The premises are demand 3's. Each question, wherever it stands in the list, is told the same in both
 pub loops_stay :

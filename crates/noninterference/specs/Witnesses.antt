@@ -121,6 +121,7 @@ two_roots_start = refl
 
 only : (k j : ℕ) → Memᴰ j (k ∷ []) → j ≡ k
 only k j (Memᴰ.head e) = e
+only k j (Memᴰ.tail x) = elim x [ ]
 
 -- a root by itself is a closed set
 root_closed : (plan : List ℕ) (k : ℕ) → k < joint_count plan → is_root plan k ≡ true → Closed plan (k ∷ [])

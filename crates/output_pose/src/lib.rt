@@ -26,7 +26,7 @@ use skeleton::{calculate_global_poses, calculate_root_pose};
 use transform::identity;
 
 // What becomes of a state's poses: they are shown as they are, or blended by a factor towards those of another state.
-#[derive(Drop)]
+#[derive(Clone, Copy)]
 pub enum Blend {
     Alone,
     Towards { there: StateAt, factor: f32 },

@@ -268,4 +268,5 @@ module _ (plan chosen : List ℕ) (a b : List Float) (ok : check plan (length a)
   pub run_same : (p q : Player) → LowEquivalent plan p q → {cs ds : List Call} → AlikeCalls plan cs ds → run_from plan a chosen p cs ≡ run_from plan b chosen q ds
   unfolding run_from
   run_same p q h none = refl
-  run_same p q h (next k ks) = rw (observation_same p q h k, run_same _ _ (after_equivalent p q h k) ks)
+  run_same p q h (next {c = c} {d = d} {cs = cs} {ds = ds} k ks) =
+      rw (observation_same p q h k, run_same (after plan a p c) (after plan b q d) (after_equivalent p q h k) ks)

@@ -2,12 +2,8 @@
 use Rattle.std.proofs.Common.{refl}
 use Rattle.model.specs.Rotations.{quaternion, from_diagonal}
 use Rattle.math.proofs.Laws.{scaled_put}
-use Rattle.math.proofs.from_diagonal_0.Statement.{statement}
-use Rattle.math.proofs.from_diagonal_0.Tie as tie
+use Rattle.math.proofs.from_diagonal_0.Goals as goal
 
-returns : tie.Need-returns
+pub returns : goal.returns
 unfolding from_diagonal
 returns c = scaled_put (λ w qi qj qk. quaternion w qi qj qk) (λ w qi qj qk s. refl) _ _ _ _ _
-
-pub from-diagonal-0-spec : {M : Type 1} → statement M
-from-diagonal-0-spec = tie.close (tie.spec returns)

@@ -2,12 +2,8 @@
 use Rattle.std.proofs.Common.{refl}
 use Rattle.model.specs.Rotations.{quaternion, from_trace}
 use Rattle.math.proofs.Laws.{scaled_put}
-use Rattle.math.proofs.from_trace.Statement.{statement}
-use Rattle.math.proofs.from_trace.Tie as tie
+use Rattle.math.proofs.from_trace.Goals as goal
 
-returns : tie.Need-returns
+pub returns : goal.returns
 unfolding from_trace
 returns c = scaled_put (λ w qi qj qk. quaternion qi w qj qk) (λ w qi qj qk s. refl) _ _ _ _ _
-
-pub from-trace-spec : {M : Type 1} → statement M
-from-trace-spec = tie.close (tie.spec returns)
