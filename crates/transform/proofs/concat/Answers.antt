@@ -5,19 +5,14 @@ use Rattle.model.specs.declared.Row.{Row}
 use Rattle.model.specs.declared.Matrix4.{Matrix4}
 use Rattle.model.specs.Rotations.{product, from_trace, from_diagonal, matrix_to_quaternion}
 use Rattle.model.specs.Pose.{from_matrix, concat}
-use Rattle.transform.proofs.concat.Statement.{statement}
-use Rattle.transform.proofs.concat.Tie as tie
+use Rattle.transform.proofs.concat.Goals as goal
 
 last-row-unread : (m : Matrix4) (r : Row) → from_matrix (record { r0 = m.r0; r1 = m.r1; r2 = m.r2; r3 = r }) ≡ from_matrix m
 unfolding from_matrix matrix_to_quaternion from_trace from_diagonal
 last-row-unread m r = refl
 
-returns : tie.Need-returns
+pub returns : goal.returns
 unfolding product concat
 returns c =
-    c.from-matrix.ensures
-    ∙ rw (c.before.before.product-row3.ensures, c.before.before.before.product-row2.ensures, c.before.before.before.before.product-row.ensures, c.before.before.before.before.before.to-matrix2.ensures, c.before.before.before.before.before.before.to-matrix.ensures) (last-row-unread _ _)
-
-pub concat-spec : {M : Type 1} → statement M
-concat-spec =
-    tie.close (tie.spec (search rules) (search rules) (search rules) (search rules) (search rules) (search rules) returns)
+    c.from_matrix.ensures
+    ∙ rw (c.product_row-r2.ensures, c.product_row-r1.ensures, c.product_row-r0.ensures, c.to_matrix-b.ensures, c.to_matrix-a.ensures) (last-row-unread _ _)

@@ -1,0 +1,8 @@
+-- `transform::lerp` meets its contract: part by part. Assumes nothing.
+use borrow.Author.Rules.{rules}
+use Rattle.model.specs.Pose.{lerp}
+use Rattle.transform.proofs.lerp.Goals as goal
+
+pub returns : goal.returns
+unfolding lerp
+returns c = cc
