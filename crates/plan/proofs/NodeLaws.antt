@@ -4,13 +4,13 @@ use native.Mathlib.Numerals.{add-one}
 use native.Mathlib.Omega.{arith}
 use native.Mathlib.Decide.{ℕ_discrete, dec_lt}
 use mathlib.Core.Path.{◌≡◌, refl, sym, ◌∙◌}
-use mathlib.Core.Bool.{Bool, true, false, not, ◌&&◌, ◌||◌, or-false, or_true, or_assoc}
+use mathlib.Core.Bool.{Bool, true, false, not, ◌&&◌, ◌||◌, or-false, or-true, or_assoc}
 use mathlib.Core.List.{List}
 use denote.Enum.Declared.{tag_of}
 use lib.Dec.{ltb, leb, eqb}
 use lib.ListN.{get_or, length, set, length-set, replicate, length-replicate, get_or-replicate}
 use lib.Seq.{get_or-set_same, get_or-set_other}
-use borrow.Author.Tests.{ltb-true, lt-ltb, le-ltb, eq-eqb, ne_eqb, not_true, not-false}
+use borrow.Author.Tests.{ltb-true, lt-ltb, le-ltb, eq-eqb, ne_eqb, not-true, not-false}
 use Rattle.model.specs.declared.Answer.{Answer}
 use Rattle.model.specs.declared.Answer.TheVariants.{Accepted}
 use Rattle.model.specs.contracts.Answer.{the_type}
@@ -139,7 +139,7 @@ set_mark : (marks : List Bool) (a k : ℕ) → k < length marks → get_or (set 
 set_mark marks a k h = go (ℕ_discrete a k)
   where
     go : Dec (a ≡ k) → get_or (set marks a true) k false ≡ get_or marks k false || eqb a k
-    go (yes e) = rw (eq-eqb a k e, e, get_or-set_same marks k true false h, or_true)
+    go (yes e) = rw (eq-eqb a k e, e, get_or-set_same marks k true false h, or-true)
     go (no e) = rw (ne_eqb a k e, get_or-set_other marks a k true false (λ q. e (sym q)), or-false)
 
 module _ (plan : List ℕ) (s i at : ℕ) (place : at ≡ kind_at plan s i) where
@@ -230,4 +230,4 @@ module _ (marks : List Bool) (place : ℕ) {n k : ℕ} (so_far : Passing (λ k. 
 
   pub unused_stops : not (get_or marks k false) ≡ true → refused 4 place 0 ≡ each n (λ k. require (get_or marks k false) 4 place)
   unfolding require
-  unused_stops e = sym (each_stops n _ k 4 place 0 more so_far.passes (rw (not_true (get_or marks k false) e)))
+  unused_stops e = sym (each_stops n _ k 4 place 0 more so_far.passes (rw (not-true (get_or marks k false) e)))

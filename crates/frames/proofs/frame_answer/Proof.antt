@@ -1,6 +1,6 @@
 -- `frames::frame_answer` meets its contract: each return is one of the verdict's cases. Assumes nothing.
 use borrow.Author.Rules.{rules}
-use borrow.Author.Tests.{not_true, not-false}
+use borrow.Author.Tests.{not-true, not-false}
 use mathlib.Core.Path.{refl}
 use Rattle.model.specs.Answers.{values}
 use Rattle.frames.proofs.Laws.{player_refuses, output_refuses, nothing_refuses}
@@ -10,7 +10,7 @@ use Rattle.frames.proofs.frame_answer.Tie as tie
 returns : tie.Need-returns
 returns c =
     let h = c.before.before in
-    player_refuses _ _ _ _ _ h.has-states.ensures (not_true _ c.before.if1.true) c.refused.ensures
+    player_refuses _ _ _ _ _ h.has-states.ensures (not-true _ c.before.if1.true) c.refused.ensures
 
 returns-2 : tie.Need-returns-2
 returns-2 c =

@@ -1,6 +1,6 @@
 -- `loops::loops` meets its contract: a refusal of the check or of the player is handed on, else the node is asked about. Assumes nothing.
 use borrow.Author.Rules.{rules}
-use borrow.Author.Tests.{not_true, not-false}
+use borrow.Author.Tests.{not-true, not-false}
 use mathlib.Core.Path.{refl}
 use Rattle.blend_tree.specs.Blocks.{Playable}
 use Rattle.frames.proofs.Laws.{playable}
@@ -21,7 +21,7 @@ returns-2 : tie.Need-returns-2
 returns-2 c =
     let t = c.before.before in
     let h = t.before in
-    player_refused _ _ _ _ _ _ (known h.before.before) h.has-states.ensures (not_true _ t.if1.true) c.before.refused.ensures c.nothing-counted2.ensures
+    player_refused _ _ _ _ _ _ (known h.before.before) h.has-states.ensures (not-true _ t.if1.true) c.before.refused.ensures c.nothing-counted2.ensures
 
 count-at-requires : tie.Need-count-at-requires
 count-at-requires c κs = known c.before.before.before.before.before

@@ -3,7 +3,7 @@ use borrow.Author.Rules.{rules}
 use borrow.Author.Tests.{lt-ltb, le-ltb}
 use mathlib.Core.Path.{◌≡◌, ◌∙◌}
 use mathlib.Core.Logic.{⊎_elim}
-use mathlib.Core.Bool.{◌||◌, or_true, or-false}
+use mathlib.Core.Bool.{◌||◌, or-true, or-false}
 use lib.Dec.{ltb}
 use Rattle.model.specs.Plan.{parent, is_root_word, is_root}
 use Rattle.model.specs.Check.{check_parent}
@@ -14,7 +14,7 @@ good : (c : tie.Joined1) → let w = c.before in let a = w.before.before.args in
 good c =
     let p = c.before.word.result in
     let a = c.before.before.before.args in
-    ⊎_elim (λ w. w.1 ∙ rw (lt-ltb p a.j w.0.taken, or_true)) (λ w. w.2 ∙ w.1.ensures ∙ rw (le-ltb p a.j w.0.left, or-false)) c.if1.branch
+    ⊎_elim (λ w. w.1 ∙ rw (lt-ltb p a.j w.0.taken, or-true)) (λ w. w.2 ∙ w.1.ensures ∙ rw (le-ltb p a.j w.0.left, or-false)) c.if1.branch
 
 returns : tie.Need-returns
 unfolding check_parent is_root parent
