@@ -3,20 +3,24 @@ use Prim.Native.Nat.{ℕ, ◌+◌, ◌≤◌, ◌<◌}
 use native.Mathlib.Numerals.{add-one}
 use native.Mathlib.Omega.{arith}
 use mathlib.Core.Path.{◌≡◌, refl, sym, ◌∙◌}
-use denote.Enum.Declared.{tag_of}
 use Rattle.model.specs.declared.Answer.{Answer}
 use Rattle.model.specs.declared.Answer.TheVariants.{Accepted, Refused}
-use Rattle.model.specs.contracts.Answer.{the_type}
 use Rattle.model.specs.Answers.{Verdict, accepted, values, ◌then◌, each}
 use Rattle.model.specs.Laws.Answers.{then_accepted, then_refused, each_next, each_stops}
 
 -- ---- one check after another
 
 -- an answer that is not `Accepted` is the answer to all that follows too
-pub stops : (a : Answer) (v w : Verdict) → tag_of the_type a ≡ 1 → values a ≡ v → values a ≡ v then w
+pub stops : (a : Answer) (v w : Verdict) → (a ≡ Accepted → ⊥) → values a ≡ v → values a ≡ v then w
 unfolding values
-stops Accepted v w t e = absurd (omega (arith, t))
+stops Accepted v w t e = absurd (t refl)
 stops (Refused r) v w t e = sym (then_refused v w _ _ 0 (sym e))
+
+-- such an answer accepts nothing
+pub never : (a : Answer) → (a ≡ Accepted → ⊥) → values a ≡ accepted → ⊥
+unfolding values
+never Accepted t e = t refl
+never (Refused r) t e = absurd cc
 
 pub passed : (a : Answer) (v : Verdict) → a ≡ Accepted → values a ≡ v → v ≡ accepted
 unfolding values
@@ -46,10 +50,10 @@ module _ {f : ℕ → Verdict} {n i : ℕ} (so_far : Passing f n i) where
     pub passing_next : a ≡ Accepted → Passing f n (i + 1)
     passing_next q = record { passes = rw add-one (each_next i f so_far.passes ∙ passed a (f i) q this); within = omega arith }
 
-    pub passing_stops : tag_of the_type a ≡ 1 → values a ≡ each n f
+    pub passing_stops : (a ≡ Accepted → ⊥) → values a ≡ each n f
     unfolding values
     passing_stops t = at a t this
       where
-        at : (b : Answer) → tag_of the_type b ≡ 1 → values b ≡ f i → values b ≡ each n f
-        at Accepted t e = absurd (omega (arith, t))
+        at : (b : Answer) → (b ≡ Accepted → ⊥) → values b ≡ f i → values b ≡ each n f
+        at Accepted t e = absurd (t refl)
         at (Refused r) t e = sym (each_stops n f i _ _ 0 more so_far.passes (sym e))

@@ -6,14 +6,12 @@ use native.Mathlib.Decide.{ℕ_discrete, dec_lt}
 use mathlib.Core.Path.{◌≡◌, refl, sym, ◌∙◌}
 use mathlib.Core.Bool.{Bool, true, false, not, ◌&&◌, ◌||◌, or-false, or-true, or_assoc}
 use mathlib.Core.List.{List}
-use denote.Enum.Declared.{tag_of}
 use lib.Dec.{ltb, leb, eqb}
 use lib.ListN.{get_or, length, set, length-set, replicate, length-replicate, get_or-replicate}
 use lib.Seq.{get_or-set_same, get_or-set_other}
-use borrow.Author.Tests.{ltb-true, lt-ltb, le-ltb, eq-eqb, ne_eqb, not-true, not-false}
+use borrow.Author.Tests.{ltb-true, lt-ltb, le-ltb, eq-eqb, ne_eqb}
 use Rattle.model.specs.declared.Answer.{Answer}
 use Rattle.model.specs.declared.Answer.TheVariants.{Accepted}
-use Rattle.model.specs.contracts.Answer.{the_type}
 use Rattle.model.specs.Answers.{Verdict, accepted, refused, values, ◌then◌, each, require}
 use Rattle.model.specs.Plan.{max_nodes, max_clip_nodes, word, kind_at, kind, is_clip, input_a, input_b, node_parameter, clip_node_at}
 use Rattle.model.specs.Check.{word_is, used, check_node}
@@ -23,7 +21,7 @@ use Rattle.model.specs.Laws.ClipNodes.{first_clip_node, clip_counts, blend_count
 use Rattle.plan.specs.declared.words.Counts.{Counts}
 use Rattle.plan.specs.declared.nodes.NodePlace.{NodePlace}
 use Rattle.plan.specs.Parts.{CountsOf, is_free, check_clip_node, check_blend_node, check_node_at, marks_after, clip_node_after, HasInputs, Begins, Marks}
-use Rattle.plan.proofs.Laws.{stops, goes, passed, Passing, passing_none, passing_next}
+use Rattle.plan.proofs.Laws.{stops, goes, Passing, passing_none, passing_next}
 
 -- ---- the words after the kind of a clip node
 
@@ -38,11 +36,11 @@ module _ (plan : List ℕ) (node : NodePlace) (counts : Counts) where
     clip_words_lem = rw (lt-ltb node.clip_node _ few)
 
     module _ (a : Answer) (e : values a ≡ word_is plan 4 (node.at + 1) (ltb (word plan (node.at + 1)) counts.clips)) where
-      pub clip_stops : tag_of the_type a ≡ 1 → values a ≡ check_clip_node plan node counts
+      pub clip_stops : (a ≡ Accepted → ⊥) → values a ≡ check_clip_node plan node counts
       clip_stops t = stops _ _ _ t (stops _ _ _ t e) ∙ sym clip_words_lem
 
       module _ (q : a ≡ Accepted) (x : ℕ) (is : x ≡ word plan (node.at + 2)) (b : Answer) (e₂ : values b ≡ word_is plan 4 (node.at + 2) (eqb x 0)) where
-        pub clip_stops_second : tag_of the_type b ≡ 1 → values b ≡ check_clip_node plan node counts
+        pub clip_stops_second : (b ≡ Accepted → ⊥) → values b ≡ check_clip_node plan node counts
         clip_stops_second t = stops _ _ _ t (goes _ _ _ _ q e (rw is at e₂)) ∙ sym clip_words_lem
 
         pub clip_ends : b ≡ Accepted → (y : ℕ) → y ≡ word plan (node.at + 3) → (c : Answer) → values c ≡ word_is plan 4 (node.at + 3) (eqb y 0) → values c ≡ check_clip_node plan node counts
@@ -224,10 +222,10 @@ marks_all plan s i marks so_far n h k = let q : n ≡ i = omega arith in rw q so
 -- ---- the search for a node that is no input
 
 module _ (marks : List Bool) (place : ℕ) {n k : ℕ} (so_far : Passing (λ k. require (get_or marks k false) 4 place) n k) (more : k < n) where
-  pub used_next : not (get_or marks k false) ≡ false → Passing (λ k. require (get_or marks k false) 4 place) n (k + 1)
+  pub used_next : get_or marks k false ≡ true → Passing (λ k. require (get_or marks k false) 4 place) n (k + 1)
   unfolding require values
-  used_next e = passing_next so_far more Accepted (rw (not-false (get_or marks k false) e)) refl
+  used_next e = passing_next so_far more Accepted (rw e) refl
 
-  pub unused_stops : not (get_or marks k false) ≡ true → refused 4 place 0 ≡ each n (λ k. require (get_or marks k false) 4 place)
+  pub unused_stops : get_or marks k false ≡ false → refused 4 place 0 ≡ each n (λ k. require (get_or marks k false) 4 place)
   unfolding require
-  unused_stops e = sym (each_stops n _ k 4 place 0 more so_far.passes (rw (not-true (get_or marks k false) e)))
+  unused_stops e = sym (each_stops n _ k 4 place 0 more so_far.passes (rw e))

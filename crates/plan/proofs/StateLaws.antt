@@ -4,13 +4,11 @@ use native.Mathlib.Omega.{arith}
 use mathlib.Core.Path.{◌≡◌, refl, sym, ◌∙◌}
 use mathlib.Core.Bool.{Bool, false}
 use mathlib.Core.List.{List}
-use denote.Enum.Declared.{tag_of}
 use lib.Dec.{leb}
 use lib.ListN.{get_or}
 use borrow.Author.Tests.{leb-true}
 use Rattle.model.specs.declared.Answer.{Answer}
 use Rattle.model.specs.declared.Answer.TheVariants.{Accepted}
-use Rattle.model.specs.contracts.Answer.{the_type}
 use Rattle.model.specs.Answers.{Verdict, accepted, values, ◌then◌, each, require}
 use Rattle.model.specs.Plan.{max_nodes, max_transitions, word, state_at, node_count, after_nodes, transition_count_at, transition_count, condition_parameter_at, condition_parameter, operator, target_state}
 use Rattle.model.specs.Check.{word_is, within, used, check_node, check_transition, check_state}
@@ -51,7 +49,7 @@ parts : (plan : List ℕ) (s at k : ℕ) → at ≡ state_at plan s → k ≡ wo
 unfolding check_state node_count transition_count_at transition_count after_nodes
 parts plan s at k place count = rw (count, place)
 
-pub count_stops : (plan : List ℕ) (s at : ℕ) → at ≡ state_at plan s → (a : Answer) → values a ≡ count_of plan at → tag_of the_type a ≡ 1 → values a ≡ check_state plan s
+pub count_stops : (plan : List ℕ) (s at : ℕ) → at ≡ state_at plan s → (a : Answer) → values a ≡ count_of plan at → (a ≡ Accepted → ⊥) → values a ≡ check_state plan s
 count_stops plan s at place a e t = stops _ _ _ t (stops _ _ _ t (stops _ _ _ t (stops _ _ _ t e))) ∙ sym (parts plan s at _ place refl)
 
 -- K passed
@@ -70,7 +68,7 @@ module _ {plan : List ℕ} {at k : ℕ} (so_far : Counted plan at k) where
     state_parts : check_state plan s ≡ tree_of plan s at k then word_is plan 2 (at + 1 + 4 * k) (leb (word plan (at + 1 + 4 * k)) max_transitions) then each (word plan (at + 1 + 4 * k)) (check_transition plan s)
     state_parts = parts plan s at k place so_far.count
 
-    pub nodes_stop : (a : Answer) → values a ≡ each k (check_node plan s) → tag_of the_type a ≡ 1 → values a ≡ check_state plan s
+    pub nodes_stop : (a : Answer) → values a ≡ each k (check_node plan s) → (a ≡ Accepted → ⊥) → values a ≡ check_state plan s
     nodes_stop a e t = stops _ _ _ t (stops _ _ _ t (stops _ _ _ t (e ∙ sym (then_accepted _ _ so_far.passes)))) ∙ sym state_parts
 
     -- then the nodes are looked for among the marks
@@ -80,7 +78,7 @@ module _ {plan : List ℕ} {at k : ℕ} (so_far : Counted plan at k) where
           let mark = marked (passed b _ q refl) in
           e ∙ each_same _ _ (k - 1) (λ j h. rw (mark.mark j (omega (arith, nodes_between)))) ∙ sym (then_accepted _ _ (then_accepted _ _ so_far.passes ∙ passed _ _ q nodes))
 
-      pub inputs_stop : tag_of the_type a ≡ 1 → values a ≡ check_state plan s
+      pub inputs_stop : (a ≡ Accepted → ⊥) → values a ≡ check_state plan s
       inputs_stop t = stops _ _ _ t (stops _ _ _ t three) ∙ sym state_parts
 
       pub is_tree : a ≡ Accepted → tree_of plan s at k ≡ accepted
@@ -88,7 +86,7 @@ module _ {plan : List ℕ} {at k : ℕ} (so_far : Counted plan at k) where
 
     -- and where they are a tree, T is next
     module _ (tree : tree_of plan s at k ≡ accepted) (a : Answer) (e : values a ≡ word_is plan 2 (at + 1 + 4 * k) (leb (word plan (at + 1 + 4 * k)) max_transitions)) where
-      pub transition_count_stops : tag_of the_type a ≡ 1 → values a ≡ check_state plan s
+      pub transition_count_stops : (a ≡ Accepted → ⊥) → values a ≡ check_state plan s
       transition_count_stops t = stops _ _ _ t (e ∙ sym (then_accepted _ _ tree)) ∙ sym state_parts
 
       first_transition_place : at + 1 + 4 * k + 1 ≡ condition_parameter_at plan s 0

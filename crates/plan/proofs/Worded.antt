@@ -5,10 +5,9 @@ use native.Mathlib.Omega.{arith}
 use mathlib.Core.Path.{◌≡◌, refl, sym, ◌∙◌}
 use mathlib.Core.List.{List}
 use lib.ListN.{length}
-use denote.Enum.Declared.{tag_of}
 use Rattle.model.specs.declared.Refusal.{Refusal}
-use Rattle.model.specs.contracts.Answer.{the_type}
-use Rattle.model.proofs.Tags.{never}
+use Rattle.model.specs.declared.Answer.TheVariants.{Accepted}
+use Rattle.plan.proofs.Laws.{never}
 use Rattle.model.specs.Answers.{Verdict, accepted, refused, values, ◌then◌}
 use Rattle.model.specs.Text.{max_word}
 use Rattle.model.specs.Plan.{max_joints, max_clips, max_states, max_transitions, clip_count, state_count, sample_count_at, state_at, transition_count, transitions_before, samples_before, poses_at, numbers_length}
@@ -56,7 +55,7 @@ numbers_counted plan l s e h = rw (h, e)
 -- ---- the parts of the check
 
 -- where the words are refused, nothing is said of what stands beside the answer
-pub words_refuse : (plan : List ℕ) (r : States) → tag_of the_type r.answer ≡ 1 → values r.answer ≡ check_words plan → WordsChecked plan r
+pub words_refuse : (plan : List ℕ) (r : States) → (r.answer ≡ Accepted → ⊥) → values r.answer ≡ check_words plan → WordsChecked plan r
 words_refuse plan r t e = record { answer = e; end = λ q. absurd (never r.answer t q); transitions = λ q. absurd (never r.answer t q) }
 
 module _ (plan : List ℕ) (n : ℕ) where

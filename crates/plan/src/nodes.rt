@@ -16,7 +16,7 @@ use model::{Answer, refused};
 const MARKS: usize = MAX_NODES + 1;
 
 // A node by its number in its state: the word of its kind, and the number that it has if it is a clip.
-#[derive(Drop)]
+#[derive(Clone, Copy)]
 pub struct NodePlace {
     pub i: usize,
     pub at: usize,

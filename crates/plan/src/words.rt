@@ -13,7 +13,7 @@ use model::limits::{MAX_CLIPS, MAX_JOINTS, MAX_PARAMETERS, MAX_SAMPLES, MAX_STAT
 use model::{Answer, refused};
 
 // The header's counts that words of states are held against.
-#[derive(Drop)]
+#[derive(Clone, Copy)]
 pub struct Counts {
     pub clips: usize,
     pub parameters: usize,

@@ -1,0 +1,6 @@
+-- `plan::words::word_below` meets its contract: it asks for the definition's test. Assumes nothing.
+use mathlib.Core.Path.{◌∙◌}
+use Rattle.plan.proofs.words.word_below.Goals as goal
+
+pub returns : goal.returns
+returns c = c.word_is.ensures ∙ rw c.word.ensures.0
