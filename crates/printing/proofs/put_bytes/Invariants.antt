@@ -1,0 +1,11 @@
+-- `printing::put_bytes` meets its contract: after i turns its first i bytes are written. Assumes nothing.
+use Prim.Native.Nat.{◌+◌, ◌-◌, ◌≤◌}
+use lib.ListN.{length, take}
+use Rattle.printing.specs.Written.{Written}
+use Rattle.printing.proofs.put_bytes.Given as goal
+
+abbrev pub invariant-loop-i : goal.invariant-loop-i
+invariant-loop-i l = (l.i ≤ length l.bytes) × Written l.initial.out l.at (take l.i l.bytes) l.out (l.at + l.i)
+
+abbrev pub decreases-loop-i : goal.decreases-loop-i
+decreases-loop-i l = length l.bytes - l.i
