@@ -8,7 +8,7 @@ use loops::loops;
 
 // Number 0 is the acceptance. Any other is a refusal, and loops and rest are 0.
 #[repr(C)]
-#[derive(Drop)]
+#[derive(Clone, Copy)]
 pub struct HostLoops {
     pub number: usize,
     pub place: usize,

@@ -4,13 +4,11 @@ use mathlib.Core.Path.{◌≡◌, refl, sym, ap, ◌∙◌}
 use mathlib.Core.List.{List}
 use lib.ListN.{length}
 use lib.Ieee.{Float}
-use denote.Enum.Declared.{tag_of}
+use Rattle.model.specs.declared.Answer.{Answer}
 use Rattle.model.specs.declared.Answer.TheVariants as answer
 use Rattle.model.specs.declared.Outcome.{Outcome}
 use Rattle.model.specs.declared.Player.{Player}
 use Rattle.model.specs.declared.FrameKind.{FrameKind}
-use Rattle.model.specs.contracts.Answer.{the_type}
-use Rattle.model.proofs.Tags.{never}
 use Rattle.model.specs.Answers.{Verdict, accepted, refused, values, unless_refused}
 use Rattle.model.specs.Controller.{frame_verdict}
 use Rattle.model.specs.Promises.{ParameterSet, Framed}
@@ -30,6 +28,12 @@ use Rattle.host_player.specs.HostParts.{host_of, UnpackedParts, PackedParts}
 pub between : (f : HostPlayer) {p q : Player} {r : HostPlayer} (call : Player → Player) → p ≡ unpacked f → q ≡ call p → r ≡ packed q → r ≡ packed (call (unpacked f))
 between f call e h k = k ∙ ap packed (h ∙ ap call e)
 
+-- an answer that is not `Accepted` accepts nothing
+never : (a : Answer) → (a ≡ answer.Accepted → ⊥) → values a ≡ accepted → ⊥
+unfolding values
+never answer.Accepted t e = t refl
+never (answer.Refused r) t e = absurd cc
+
 kept : {X : Type 0} (v : Verdict) (new old : X) → (v ≡ accepted → ⊥) → unless_refused v new old ≡ old
 unfolding unless_refused
 kept accepted new old h = absurd (h refl)
@@ -42,7 +46,7 @@ after_accepted v p q f e h = rw e (ap packed (rw e at h))
 -- ---- set
 
 module _ (f : HostPlayer) (n : ℕ) (v : Float) (o : Outcome) (done : ParameterSet (unpacked f) n v o) (a : HostAnswer) (told : a ≡ host_answer (values o.answer)) where
-  pub set_refused : tag_of the_type o.answer ≡ 1 → HostParameterSet f n v f a
+  pub set_refused : (o.answer ≡ answer.Accepted → ⊥) → HostParameterSet f n v f a
   set_refused t = record { answer = told ∙ ap host_answer done.answer; player = sym (kept _ _ f (λ e. never o.answer t (done.answer ∙ e))) }
 
   pub set_accepted : o.answer ≡ answer.Accepted → (q : HostPlayer) → q ≡ packed o.player → HostParameterSet f n v q a
@@ -61,7 +65,7 @@ module _ {kind : FrameKind} {plan : List ℕ} {numbers : List Float} (flat : Hos
   on_unpacked : Framed kind plan numbers (unpacked f) ext old new (outcome_of before frame ps after)
   on_unpacked = rw same at done
 
-  pub frame_refused : tag_of the_type frame.answer ≡ 1 → HostFramed kind plan numbers f ext old new (host_of flat ps after) a
+  pub frame_refused : (frame.answer ≡ answer.Accepted → ⊥) → HostFramed kind plan numbers f ext old new (host_of flat ps after) a
   unfolding unpacked
   frame_refused t =
       let no : frame_verdict plan numbers (unpacked f) (length old) ≡ accepted → ⊥ = λ e. never frame.answer t (on_unpacked.answer ∙ e) in

@@ -18,7 +18,7 @@ use model::{Answer, FrameKind, Outcome, Player, TextAnswer, Transition};
 
 // Start, target and duration count where `running` is not 0.
 #[repr(C)]
-#[derive(Drop)]
+#[derive(Clone, Copy)]
 pub struct HostPlayer {
     pub clock: f64,
     pub speed: f64,
@@ -32,7 +32,7 @@ pub struct HostPlayer {
 }
 
 // The numbers of a flat player, without its arrays.
-#[derive(Drop)]
+#[derive(Clone, Copy)]
 pub struct HostParts {
     pub clock: f64,
     pub speed: f64,
@@ -45,7 +45,7 @@ pub struct HostParts {
 
 // Number 0 is the acceptance.
 #[repr(C)]
-#[derive(Drop)]
+#[derive(Clone, Copy)]
 pub struct HostAnswer {
     pub number: usize,
     pub place: usize,
@@ -53,7 +53,7 @@ pub struct HostAnswer {
 
 // How many words and numbers were written, where the text was accepted.
 #[repr(C)]
-#[derive(Drop)]
+#[derive(Clone, Copy)]
 pub struct HostTextAnswer {
     pub number: usize,
     pub place: usize,
@@ -62,7 +62,7 @@ pub struct HostTextAnswer {
 }
 
 // A flat player and the answer of the call that changed it, or not.
-#[derive(Drop)]
+#[derive(Clone, Copy)]
 pub struct HostOutcome {
     pub answer: HostAnswer,
     pub player: HostPlayer,
@@ -251,7 +251,7 @@ pub fn parameter_set(flat: HostPlayer, parameter: usize, value: f32) -> HostOutc
 // ---- frame and page frame: the player's owner lends its arrays
 
 // What a frame hands back beside the instances: its answer, and the numbers of the player after it.
-#[derive(Drop)]
+#[derive(Clone, Copy)]
 pub struct HostFrame {
     pub answer: HostAnswer,
     pub parts: HostParts,

@@ -9,7 +9,7 @@ use uses::uses;
 
 // Number 0 is the acceptance. Any other is a start's refusal, and no mark is set.
 #[repr(C)]
-#[derive(Drop)]
+#[derive(Clone, Copy)]
 pub struct HostUses {
     pub number: usize,
     pub place: usize,

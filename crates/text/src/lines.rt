@@ -158,7 +158,7 @@ fn field_at(text: &[u8], at: usize, kind: LineKind, reading: LineReading) -> Lin
 
 // ---- the cursor: a text and a place in it, held together
 
-#[derive(Drop)]
+#[derive(Clone, Copy)]
 struct Fields<'a> {
     text: &'a [u8],
     at: usize,
