@@ -1,7 +1,7 @@
 /*
  * gentianlathe.h: the C interface of Gentianlathe, the evaluator of a signing figure's animation.
  *
- * It belongs to the archive libcapi.a, which `rt staticlib capi` proves and writes for 64-bit x86.
+ * It belongs to the archive libcapi.a, which `tools/build capi` proves and writes for 64-bit x86.
  * The header is C99 and C++. NOTICE has the licence of what was ported.
  *
  * A figure is a plan (16-bit words: joints, clips, blend trees, transitions) with its numbers (rates,

@@ -8,7 +8,7 @@ const VARIABLE: &str = "GENTIANLATHE_LIB_DIR";
 const IN_REPOSITORY: &str = "../../target/staticlib";
 const ARCHIVE: &str = "libcapi.a";
 
-/// The folder that the host named, or the one that `rt staticlib` writes to.
+/// The folder that the host named, or the one that `tools/build` writes to.
 fn folder(manifest: &Path) -> PathBuf {
     match env::var_os(VARIABLE).filter(|name| !name.is_empty()) {
         Some(name) => PathBuf::from(name),
@@ -27,7 +27,7 @@ fn main() {
     // An absolute path: the linker runs in another folder than this one.
     let Ok(found) = archive.canonicalize() else {
         eprintln!(
-            "gentianlathe: no {ARCHIVE} in '{}'. In the repository's folder, 'rt staticlib capi' proves and writes \
+            "gentianlathe: no {ARCHIVE} in '{}'. In the repository's folder, 'tools/build capi' proves and writes \
              it to target/staticlib; or name the folder that has it in {VARIABLE}, by an absolute path.",
             folder.display()
         );

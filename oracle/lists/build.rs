@@ -15,7 +15,7 @@ fn main() {
     let library = folder.join("libcapi.a");
     if !library.is_file() {
         eprintln!(
-            "{} is not there. Prove and build it by `rt staticlib capi` in the repository's folder, \
+            "{} is not there. Prove and build it by `tools/build capi` in the repository's folder, \
              or name the folder of another libcapi.a in {VARIABLE}.",
             library.display()
         );

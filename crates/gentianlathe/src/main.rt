@@ -3,29 +3,22 @@
 #![tactic(auto)]
 
 use input::read_input;
-use libc::{STDERR_FILENO, STDIN_FILENO, STDOUT_FILENO};
 use model::limits::MAX_TEXT;
 use printing::MAX_PRINTED;
 use program::{Question, answer};
 
-fn main() {
+fn main(rt: HostRuntime) {
     // A byte more, so that a longer text is noticed.
     let mut text = [0u8; MAX_TEXT + 1];
-    let input = read_input(STDIN_FILENO, &mut text);
+    let input = read_input(&mut rt.stdin(), &mut text);
     if input.failed {
-        io::write_all(
-            STDERR_FILENO,
-            b"gentianlathe: standard input cannot be read\n",
-        );
+        let _ = eprintln!(rt; "gentianlathe: standard input cannot be read");
         return;
     }
     let count = input.count;
     let mut out = [0u8; MAX_PRINTED];
     let length = answer(Question::Frame, &text[..count], &mut out);
-    if !io::write_all(STDOUT_FILENO, &out[..length]) {
-        io::write_all(
-            STDERR_FILENO,
-            b"gentianlathe: standard output cannot be written\n",
-        );
+    if rt.write_all(&out[..length]).is_err() {
+        let _ = eprintln!(rt; "gentianlathe: standard output cannot be written");
     }
 }

@@ -2,12 +2,12 @@
 // What a verb prints is a library's work, on slices; here are only the arguments, the reading and the writing.
 #![tactic(auto)]
 
-use check::same;
-use input_file::read_file;
-use libc::{STDERR_FILENO, STDOUT_FILENO};
+use input_file::{PATH_SIZE, argument_error, complain, has_argument, read_file};
 use model::limits::MAX_TEXT;
 use printing::MAX_PRINTED;
 use program::{Question, answer};
+use std::io::Write;
+use std::rt::Env;
 
 #[derive(Drop)]
 enum Verb {
@@ -17,79 +17,79 @@ enum Verb {
 }
 
 fn verb_of(name: &[u8]) -> Verb {
-    if same(name, b"uses") {
-        return Verb::Uses;
+    match name {
+        b"uses" => Verb::Uses,
+        b"--help" | b"-h" | b"help" => Verb::Help,
+        _ => Verb::Unknown,
     }
-    if same(name, b"--help") || same(name, b"-h") || same(name, b"help") {
-        return Verb::Help;
-    }
-    Verb::Unknown
 }
 
 // A line for each verb, and one for what it prints.
-fn write_usage(fd: i32) -> bool {
-    io::write_all(
-        fd,
-        b"usage: inspect uses FIGURE\nprints which states, parameters and clips of the figure in FIGURE can ever matter (1) and which never do (0)\n",
-    )
+fn write_usage<W: Write>(out: &mut W) -> bool {
+    let usage =
+        b"usage: inspect uses FIGURE\nprints which states, parameters and clips of the figure in FIGURE can ever matter (1) and which never do (0)\n";
+    out.write_all(usage).is_ok()
 }
 
 // What is wrong with the arguments, and how the program is used.
-fn refuse(what: &[u8], name: &[u8]) {
-    io::write_all(STDERR_FILENO, b"inspect: ");
-    io::write_all(STDERR_FILENO, what);
-    io::write_all(STDERR_FILENO, name);
-    io::write_all(STDERR_FILENO, b"\n");
-    write_usage(STDERR_FILENO);
+fn refuse(rt: &HostRuntime, what: &[u8], name: &[u8]) {
+    let mut err = rt.stderr();
+    let _ = Write::write_all(&mut err, b"inspect: ");
+    let _ = Write::write_all(&mut err, what);
+    let _ = Write::write_all(&mut err, name);
+    let _ = Write::write_all(&mut err, b"\n");
+    write_usage(&mut err);
 }
 
-fn check_written(written: bool) {
+fn check_written(rt: &HostRuntime, written: bool) {
     if !written {
-        io::write_all(
-            STDERR_FILENO,
-            b"inspect: standard output cannot be written\n",
-        );
+        let _ = eprintln!(rt; "inspect: standard output cannot be written");
     }
 }
 
-fn print_uses() {
-    if os::arg_count() != 3 {
-        refuse(b"uses takes one FIGURE", b"");
+fn print_uses(rt: &HostRuntime) {
+    if !has_argument(rt, 2) || has_argument(rt, 3) {
+        refuse(rt, b"uses takes one FIGURE", b"");
         return;
     }
     // A byte more, so that a longer text is noticed.
     let mut text = [0u8; MAX_TEXT + 1];
-    let input = read_file(b"inspect: an argument", 2, &mut text);
+    let input = read_file(rt, b"inspect: an argument", 2, &mut text);
     if input.failed {
-        write_usage(STDERR_FILENO);
+        write_usage(&mut rt.stderr());
         return;
     }
     let count = input.count;
     let mut out = [0u8; MAX_PRINTED];
     let length = answer(Question::Uses, &text[..count], &mut out);
-    check_written(io::write_all(STDOUT_FILENO, &out[..length]));
+    let written = Print::write_all(rt, &out[..length]).is_ok();
+    check_written(rt, written);
 }
 
-fn run(name: &[u8]) {
+fn run(rt: &HostRuntime, name: &[u8]) {
     let verb = verb_of(name);
     match verb {
-        Verb::Uses => print_uses(),
-        Verb::Help => check_written(write_usage(STDOUT_FILENO)),
-        Verb::Unknown => refuse(b"no such verb: ", name),
+        Verb::Uses => print_uses(rt),
+        Verb::Help => check_written(rt, write_usage(&mut rt.stdout())),
+        Verb::Unknown => refuse(rt, b"no such verb: ", name),
     }
 }
 
-fn main() {
-    if os::arg_count() < 2 {
-        refuse(b"no verb given", b"");
+fn main(rt: HostRuntime) {
+    if !has_argument(&rt, 1) {
+        refuse(&rt, b"no verb given", b"");
         return;
     }
-    let mut name = io::buffer();
-    let size = os::arg(1, &mut name);
-    if os::errno() != 0 {
-        os::fail(b"inspect: an argument");
-        write_usage(STDERR_FILENO);
-        return;
+    let mut name = [0u8; PATH_SIZE];
+    match rt.arg(1, &mut name) {
+        Ok(size) => run(&rt, &name[..size]),
+        Err(why) => {
+            complain(
+                &mut rt.stderr(),
+                b"inspect: an argument",
+                argument_error(why),
+            );
+            write_usage(&mut rt.stderr());
+        }
     }
-    run(&name[..size]);
 }

@@ -2,10 +2,10 @@
 use Prim.Native.Nat.{ℕ, ◌≤◌, ◌<◌}
 use native.Mathlib.Omega.{arith}
 use mathlib.Core.Path.{◌≡◌, refl, sym, ap, ◌∙◌}
-use mathlib.Core.Bool.{Bool, true, false, not, ◌&&◌, ◌||◌}
+use mathlib.Core.Bool.{Bool, true, false, not, ◌||◌}
 use mathlib.Core.List.{List}
 use lib.ListN.{length}
-use lib.Dec.{ltb, eqb}
+use lib.Dec.{ltb}
 use lib.Ieee.{Float}
 use borrow.Author.Tests.{lt-ltb, le-ltb, eq-eqb, ne_eqb}
 use Rattle.model.specs.declared.Answer.{Answer}
@@ -13,10 +13,9 @@ use Rattle.model.specs.declared.ClipInstance.{ClipInstance}
 use Rattle.model.specs.declared.LoopCount.{LoopCount}
 use Rattle.model.specs.declared.Player.{Player}
 use Rattle.model.specs.declared.Refusal.{Refusal}
-use Rattle.model.specs.Answers.{Verdict, accepted, refused, values, ◌then◌, require, unless_refused}
+use Rattle.model.specs.Answers.{accepted, refused, values, ◌then◌, require, unless_refused}
 use Rattle.model.specs.Numbers.{floor_index}
-use Rattle.model.specs.Plan.{state_count, node_count, is_clip, input_a, clip_node_at, sample_count, is_empty, is_stopping}
-use Rattle.model.specs.Check.{check}
+use Rattle.model.specs.Plan.{state_count, node_count, input_a, clip_node_at, sample_count, is_empty, is_stopping}
 use Rattle.model.specs.Clips.{local_time, instance_at, position_of, sampled_position}
 use Rattle.model.specs.Controller.{has_states, play_verdict}
 use Rattle.model.specs.Loops.{is_clip_node, is_looping, loops_verdict, played_index, whole_loops, loop_rest}

@@ -1,10 +1,10 @@
 // The text of a row's operands and of an answer's words: eight lower-case hexadecimal digits each.
 use crate::answer::{MAX_OPERANDS, MAX_WORDS};
 use fields::{Field, byte, read_field};
-use libc::STDOUT_FILENO;
 use model::FieldForm;
 use model::limits::NUMBER_BYTES;
 use printing::put_field;
+use std::io::Write;
 
 const HEXADECIMAL: usize = 16;
 
@@ -45,7 +45,7 @@ fn wide(word: u32) -> usize {
 }
 
 // Prints the first `count` words, from 1 on, as a line. False for another count, or if it cannot be written.
-pub fn print_words(words: [u32; MAX_WORDS], count: usize) -> bool {
+pub fn print_words<W: Write>(output: &mut W, words: [u32; MAX_WORDS], count: usize) -> bool {
     if count == 0 {
         return false;
     }
@@ -65,5 +65,5 @@ pub fn print_words(words: [u32; MAX_WORDS], count: usize) -> bool {
         );
         i += 1;
     }
-    io::write_all(STDOUT_FILENO, &line[1..WORD_SIZE * count + 1])
+    output.write_all(&line[1..WORD_SIZE * count + 1]).is_ok()
 }

@@ -5,9 +5,9 @@
 ghost use Rattle.std.specs.Prelude.{◌≤◌, length};
 
 use calls::MAX_LIST;
-use libc::STDOUT_FILENO;
 use model::limits::MAX_TEXT;
 use replay_print::print_replay;
+use std::io::{Read, Write};
 use test_io::{read_front, size_at};
 
 const HEADER_SIZE: usize = 23;
@@ -15,13 +15,19 @@ const HEADER_SIZE: usize = 23;
 // A figure may be a byte too long.
 const FIGURE_SIZE: usize = MAX_TEXT + 1;
 
-fn print_case(figure: &[u8], figure_size: usize, calls: &[u8], calls_size: usize) -> bool
+fn print_case<W: Write>(
+    output: &mut W,
+    figure: &[u8],
+    figure_size: usize,
+    calls: &[u8],
+    calls_size: usize,
+) -> bool
     requires { (figure_size ≤ length figure.now) × (calls_size ≤ length calls.now) }
 {
-    print_replay(&figure[..figure_size], &calls[..calls_size])
+    print_replay(output, &figure[..figure_size], &calls[..calls_size])
 }
 
-fn run_list(header: [u8; HEADER_SIZE]) -> bool {
+fn run_list<R: Read, W: Write>(input: &mut R, output: &mut W, header: [u8; HEADER_SIZE]) -> bool {
     let figure_size = size_at(&header, 5);
     let calls_size = size_at(&header, 14);
     if FIGURE_SIZE < figure_size {
@@ -32,29 +38,31 @@ fn run_list(header: [u8; HEADER_SIZE]) -> bool {
     }
     let mut figure = [0u8; FIGURE_SIZE];
     let mut calls = [0u8; MAX_LIST];
-    if !read_front(&mut figure, figure_size) {
+    if !read_front(input, &mut figure, figure_size) {
         return false;
     }
-    if !read_front(&mut calls, calls_size) {
+    if !read_front(input, &mut calls, calls_size) {
         return false;
     }
-    io::write_all(STDOUT_FILENO, &header);
-    print_case(&figure, figure_size, &calls, calls_size)
+    let _ = output.write_all(&header);
+    print_case(output, &figure, figure_size, &calls, calls_size)
 }
 
 // False at the end of the input, and at a case that is cut off or too long.
-fn run_case() -> bool {
+fn run_case<R: Read, W: Write>(input: &mut R, output: &mut W) -> bool {
     let mut header = [0u8; HEADER_SIZE];
-    if !read_front(&mut header, HEADER_SIZE) {
+    if !read_front(input, &mut header, HEADER_SIZE) {
         return false;
     }
-    run_list(header)
+    run_list(input, output, header)
 }
 
 // A proved loop has to end, and nothing says that the input does.
-fn main() {
+fn main(rt: HostRuntime) {
+    let mut input = rt.stdin();
+    let mut output = rt.stdout();
     let mut cases: u64 = 0;
-    while cases < u64::MAX && run_case() {
+    while cases < u64::MAX && run_case(&mut input, &mut output) {
         cases += 1;
     }
 }

@@ -3,47 +3,39 @@
 #![tactic(auto)]
 
 use calls::MAX_LIST;
-use input_file::read_file;
-use libc::STDERR_FILENO;
+use input_file::{has_argument, read_file};
 use model::limits::MAX_TEXT;
 use replay_print::print_replay;
 
-fn replay(figure: &[u8], calls: &[u8]) {
+fn replay(rt: &HostRuntime, figure: &[u8], calls: &[u8]) {
     if calls.len() > MAX_LIST {
-        io::write_all(
-            STDERR_FILENO,
-            b"replay: the list of calls is longer than 262144 bytes\n",
-        );
+        let _ = eprintln!(rt; "replay: the list of calls is longer than 262144 bytes");
         return;
     }
-    if !print_replay(figure, calls) {
-        io::write_all(
-            STDERR_FILENO,
-            b"replay: standard output cannot be written\n",
-        );
+    if !print_replay(&mut rt.stdout(), figure, calls) {
+        let _ = eprintln!(rt; "replay: standard output cannot be written");
     }
 }
 
 // The buffers hold a byte more than is read, so that a longer file is noticed.
-fn main() {
-    if os::arg_count() != 3 {
-        io::write_all(
-            STDERR_FILENO,
-            b"usage: replay FIGURE CALLS\nprints what each call of the list in CALLS shows on the figure in FIGURE\n",
+fn main(rt: HostRuntime) {
+    if !has_argument(&rt, 2) || has_argument(&rt, 3) {
+        let _ = eprintln!(rt;
+            "usage: replay FIGURE CALLS\nprints what each call of the list in CALLS shows on the figure in FIGURE"
         );
         return;
     }
     let mut figure = [0u8; MAX_TEXT + 1];
-    let figure_read = read_file(b"replay: an argument", 1, &mut figure);
+    let figure_read = read_file(&rt, b"replay: an argument", 1, &mut figure);
     if figure_read.failed {
         return;
     }
     let mut calls = [0u8; MAX_LIST + 1];
-    let calls_read = read_file(b"replay: an argument", 2, &mut calls);
+    let calls_read = read_file(&rt, b"replay: an argument", 2, &mut calls);
     if calls_read.failed {
         return;
     }
     let figure_size = figure_read.count;
     let calls_size = calls_read.count;
-    replay(&figure[..figure_size], &calls[..calls_size]);
+    replay(&rt, &figure[..figure_size], &calls[..calls_size]);
 }

@@ -5,6 +5,7 @@ use crate::refusals::NO_PARENT;
 use crate::show;
 use controller::{speed, start, update, update_in_place};
 use model::Player;
+use std::io::Write;
 
 // `update_in_place` on a player that lies in a local.
 fn updated(player: Player, delta: f64) -> Player
@@ -15,21 +16,24 @@ fn updated(player: Player, delta: f64) -> Player
     kept
 }
 
-fn step(player: Player, delta: f64) {
-    show::text(b"update\n");
-    show::player(update(player, delta));
-    show::text(b"update_in_place\n");
-    show::player(updated(player, delta));
+fn step<W: Write>(to: &mut W, player: Player, delta: f64) {
+    show::text(to, b"update\n");
+    show::player(to, update(player, delta));
+    show::text(to, b"update_in_place\n");
+    show::player(to, updated(player, delta));
 }
 
 // At speed 2 the clock moves twice as far as it is told: from 0 by 0.75 to 1.5, and from there by 0.25 to 2.
-pub fn beside_update() {
+pub fn beside_update<W: Write>(to: &mut W) {
     let plan: [u16; 14] = [1, 1, 0, 1, 0, NO_PARENT, 1, 0, 1, 0, 0, 0, 0, 0];
     let numbers: [f32; 9] = [1.0, 1.0, 2.0, 3.0, 1.0, 1.0, 0.0, 0.0, 0.0];
-    show::text(b"# update-in-place: a player updated where it lies, beside one updated by value\n");
+    show::text(
+        to,
+        b"# update-in-place: a player updated where it lies, beside one updated by value\n",
+    );
     let begun = start(&plan, &numbers);
     let fresh = begun.player;
     let quick = speed(fresh, 2.0);
-    step(quick, 0.75);
-    step(updated(quick, 0.75), 0.25);
+    step(to, quick, 0.75);
+    step(to, updated(quick, 0.75), 0.25);
 }

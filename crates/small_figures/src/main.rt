@@ -8,17 +8,18 @@ mod show;
 mod signs;
 mod unseen;
 
-fn main() {
-    refusals::printed_example();
-    refusals::of_start();
-    refusals::of_set_and_frame();
-    refusals::joint_limit();
-    signs::there_and_back();
-    signs::page();
-    signs::held();
-    signs::paused();
-    signs::nothing_but_nan();
-    unseen::sevens();
-    unseen::nan();
-    in_place::beside_update();
+fn main(rt: HostRuntime) {
+    let mut output = rt.stdout();
+    refusals::printed_example(&mut output);
+    refusals::of_start(&mut output);
+    refusals::of_set_and_frame(&mut output);
+    refusals::joint_limit(&mut output);
+    signs::there_and_back(&mut output);
+    signs::page(&mut output);
+    signs::held(&mut output);
+    signs::paused(&mut output);
+    signs::nothing_but_nan(&mut output);
+    unseen::sevens(&mut output);
+    unseen::nan(&mut output);
+    in_place::beside_update(&mut output);
 }

@@ -2,58 +2,58 @@
 ghost use Rattle.std.specs.Prelude.{◌≤◌, ◌+◌, length};
 ghost use Rattle.model.specs.Plan.{max_joints, output_at};
 
-use libc::STDOUT_FILENO;
 use model::limits::{MATRIX_FLOATS, NUMBER_BYTES};
 use model::{Answer, Outcome, Player};
 use printing::{MAX_PRINTED, REFUSAL_SIZE, put_floats, put_joints};
 use report::{PLAYER_SIZE, put_answer, put_player};
+use std::io::Write;
 use test_io::write_front;
 
 // A joint's matrix, and two floats behind it.
 const MAX_FLOATS: usize = MATRIX_FLOATS + 2;
 
-pub fn text(s: &[u8]) {
-    io::write_all(STDOUT_FILENO, s);
+pub fn text<W: Write>(to: &mut W, s: &[u8]) {
+    let _ = to.write_all(s);
 }
 
 // The call's name is a line.
-pub fn answer(call: &[u8], a: Answer) {
-    text(call);
+pub fn answer<W: Write>(to: &mut W, call: &[u8], a: Answer) {
+    text(to, call);
     let mut out = [0u8; REFUSAL_SIZE];
     let size = put_answer(&mut out, 0, a);
-    write_front(&out, size);
+    write_front(to, &out, size);
 }
 
 // Clock, speed, state and transition.
-pub fn player(p: Player) {
+pub fn player<W: Write>(to: &mut W, p: Player) {
     let mut out = [0u8; PLAYER_SIZE];
     let size = put_player(&mut out, 0, p);
-    write_front(&out, size);
+    write_front(to, &out, size);
 }
 
-pub fn outcome(call: &[u8], o: Outcome) {
+pub fn outcome<W: Write>(to: &mut W, call: &[u8], o: Outcome) {
     let a = o.answer;
     let p = o.player;
-    answer(call, a);
-    player(p);
+    answer(to, call, a);
+    player(to, p);
 }
 
 // The matrices of an output's first joints.
-pub fn joints(count: usize, output: &[f32])
+pub fn joints<W: Write>(to: &mut W, count: usize, output: &[f32])
     requires { (count ≤ max_joints) × (output_at count ≤ length output.now) }
 {
     let mut out = [0u8; MAX_PRINTED];
     let size = put_joints(&mut out, 0, count, output);
-    write_front(&out, size);
+    write_front(to, &out, size);
 }
 
 // All floats of an output.
-pub fn floats(output: &[f32])
+pub fn floats<W: Write>(to: &mut W, output: &[f32])
     requires { length output.now ≤ output_at 1 + 2 }
 {
     let mut out = [0u8; NUMBER_BYTES * MAX_FLOATS];
-    text(b"output");
+    text(to, b"output");
     let size = put_floats(&mut out, 0, output);
-    write_front(&out, size);
-    text(b"\n");
+    write_front(to, &out, size);
+    text(to, b"\n");
 }

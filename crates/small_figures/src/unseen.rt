@@ -5,6 +5,7 @@ use crate::refusals::NO_PARENT;
 use crate::show;
 use controller::{frame, set, start, update};
 use model::limits::MATRIX_FLOATS;
+use std::io::Write;
 
 // Three rates, a value, a duration, and eight floats for each of four samples' two joints.
 const NUMBERS: usize = 5 + 8 * 2 * 4;
@@ -43,39 +44,45 @@ fn figure(unseen: f32) -> [f32; NUMBERS] {
 }
 
 // The first state lerps clips 0 and 1 by parameter 0. Nothing leads to the second, which lerps clips 2 and 0 by parameter 1 and tests that too.
-fn played(unseen: f32, numbers: &[f32]) {
+fn played<W: Write>(to: &mut W, unseen: f32, numbers: &[f32]) {
     let plan: [u16; 44] = [
         2, 3, 2, 2, 0, NO_PARENT, NO_PARENT, 2, 0, 1, 0, 1, 0, 3, 0, 0, 0, 0, 0, 1, 0, 0, 1, 0, 1,
         0, 0, 3, 0, 2, 0, 0, 0, 0, 0, 0, 1, 0, 1, 1, 1, 1, 2, 0,
     ];
     let mut output = [unseen; 2 * MATRIX_FLOATS];
     let begun = start(&plan, numbers);
-    show::outcome(b"start\n", begun);
+    show::outcome(to, b"start\n", begun);
     let fresh = begun.player;
     let told = set(fresh, 0, 0.5);
-    show::outcome(b"set\n", told);
+    show::outcome(to, b"set\n", told);
     let told_player = told.player;
     let unread = set(told_player, 1, unseen);
-    show::outcome(b"set\n", unread);
+    show::outcome(to, b"set\n", unread);
     let unread_player = unread.player;
     let shown = frame(&plan, numbers, update(unread_player, 0.5), 0.0, &mut output);
-    show::outcome(b"frame\n", shown);
-    show::joints(1, &output);
+    show::outcome(to, b"frame\n", shown);
+    show::joints(to, 1, &output);
     let shown_player = shown.player;
     let last = frame(&plan, numbers, update(shown_player, 1.25), 0.0, &mut output);
-    show::outcome(b"frame\n", last);
-    show::joints(1, &output);
+    show::outcome(to, b"frame\n", last);
+    show::joints(to, 1, &output);
 }
 
-pub fn sevens() {
-    show::text(b"# unseen-sevens: joint 0, where all that it cannot see is 7\n");
+pub fn sevens<W: Write>(to: &mut W) {
+    show::text(
+        to,
+        b"# unseen-sevens: joint 0, where all that it cannot see is 7\n",
+    );
     let numbers = figure(7.0);
-    played(7.0, &numbers);
+    played(to, 7.0, &numbers);
 }
 
-pub fn nan() {
-    show::text(b"# unseen-nan: joint 0 as before, where all that it cannot see is NaN\n");
+pub fn nan<W: Write>(to: &mut W) {
+    show::text(
+        to,
+        b"# unseen-nan: joint 0 as before, where all that it cannot see is NaN\n",
+    );
     let nothing: f32 = 0.0 / 0.0;
     let numbers = figure(nothing);
-    played(nothing, &numbers);
+    played(to, nothing, &numbers);
 }

@@ -4,8 +4,8 @@
 ghost use Rattle.std.specs.Prelude.{◌≤◌, length};
 
 use fields::{Field, read_field};
-use libc::{STDIN_FILENO, STDOUT_FILENO};
 use model::FieldForm;
+use std::io::{Read, Write};
 
 // More bytes than any case has.
 const NO_SIZE: usize = 0x1_0000_0000;
@@ -20,15 +20,15 @@ pub fn size_at(header: &[u8], at: usize) -> usize {
 }
 
 // Reads `size` bytes into the front of `text`; false where the input ends before.
-pub fn read_front(text: &mut [u8], size: usize) -> bool
+pub fn read_front<R: Read>(input: &mut R, text: &mut [u8], size: usize) -> bool
     requires { size ≤ length text.old }
 {
-    io::read_full(STDIN_FILENO, &mut text[..size]) == size
+    input.read_exact(&mut text[..size]).is_ok()
 }
 
 // Writes the bytes below `size`; false where that cannot be done.
-pub fn write_front(bytes: &[u8], size: usize) -> bool
+pub fn write_front<W: Write>(output: &mut W, bytes: &[u8], size: usize) -> bool
     requires { size ≤ length bytes.now }
 {
-    io::write_all(STDOUT_FILENO, &bytes[..size])
+    output.write_all(&bytes[..size]).is_ok()
 }
