@@ -1,0 +1,20 @@
+-- `program::play` meets its contract: a refused start is printed as such, an accepted one gives a fresh player.
+-- Assumes nothing.
+use borrow.Author.Rules.{rules}
+use Rattle.printing.proofs.Laws.{front_written}
+use Rattle.program.proofs.Laws.{refusal_played, start_accepted, player_fresh}
+use Rattle.program.proofs.play.Goals as goal
+
+pub first_frame-requires : goal.first_frame-requires
+first_frame-requires c =
+    let e = c.in-Accepted.is in
+    (start_accepted _ _ _ c.start-begun.ensures e, player_fresh _ _ _ c.start-begun.ensures e, search rules)
+
+pub returns-in-Refused : goal.returns-in-Refused
+returns-in-Refused c =
+    rw (refusal_played _ _ _ c.start-begun.ensures _ c.in-Refused.is)
+    at (front_written c.put_refusal.ensures.0 (search rules))
+
+pub returns-in-Accepted : goal.returns-in-Accepted
+returns-in-Accepted c =
+    rw (start_accepted _ _ _ c.start-begun.ensures c.in-Accepted.is) c.first_frame.ensures
