@@ -8,7 +8,7 @@ use lib.Ieee.Fits.{down_pos, and_l, and_r}
 use lib.Ieee.Exact.{HasValue}
 use lib.Ieee.Back.{round_whole}
 use lib.Ieee.Nearest.{closest}
-use Rattle.model.specs.Numbers.{carry, floor, ceiling, floor_index, ceiling_index, index_float}
+use Rattle.model.specs.Numbers.{carry, ceiling, ceiling_index, index_float}
 use Rattle.model.proofs.Laws.Wholes.{most, whole_index}
 use Rattle.float.proofs.Rounding.{le_or_lt, closest_le, round_bits}
 

@@ -20,3 +20,5 @@ pub mod Promises
 -- document 02's, one file a card, and the classes of floats that they speak of
 pub mod Classes
 pub mod Narrowing
+-- what laws in proofs/ speak of
+pub mod Laws

@@ -5,7 +5,7 @@ use Rattle.model.specs.Run.{start_verdict, run}
 use Rattle.model.specs.Controller.{fresh}
 use Rattle.noninterference.specs.Alike.{Closed, AlikeNumbers, AlikeCalls}
 use Rattle.noninterference.specs.Trace.{Event, Session, calls, observed}
-use Rattle.noninterference.proofs.Demand3.{Noninterference}
+use Rattle.noninterference.specs.Demand3.{Noninterference}
 use Rattle.noninterference.proofs.Laws.Players.{fresh_equivalent, run_same}
 use Rattle.noninterference.proofs.Laws.Output.{session_accepted, session_observed}
 

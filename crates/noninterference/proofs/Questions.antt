@@ -21,10 +21,10 @@ use Rattle.model.proofs.Laws.Reached.{marked_reachable}
 use Rattle.model.proofs.Laws.Tests.{and_left, and_right}
 use Rattle.noninterference.specs.Alike.{Closed, AlikeNumbers, AlikeCall, updates, speeds, sets, frames, questions, AlikeCalls, none, next}
 use Rattle.noninterference.specs.Trace.{Event, Trace, Session, calls, of_reachable, told_in}
-use Rattle.noninterference.proofs.Questions.{told_from}
+use Rattle.noninterference.specs.Questions.{told_from}
 use Rattle.noninterference.proofs.Laws.Lists.{cond_same}
 use Rattle.noninterference.proofs.Laws.Numbers.{rate_same}
-use Rattle.noninterference.proofs.Laws.Trees.{instance_of}
+use Rattle.noninterference.specs.Laws.Trees.{instance_of}
 use Rattle.noninterference.proofs.Laws.Trees.{instance_same}
 use Rattle.noninterference.proofs.Laws.Players.{LowEquivalent, fresh_equivalent, after_equivalent, verdict_same}
 use Rattle.noninterference.proofs.Laws.Output.{told_by, first, session_accepted, session_fresh}

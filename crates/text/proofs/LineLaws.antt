@@ -14,7 +14,8 @@ use Rattle.model.specs.declared.LineKind.{LineKind}
 use Rattle.model.specs.declared.FieldForm.{FieldForm}
 use Rattle.model.specs.declared.FieldForm.TheVariants.{Decimal, Bits}
 use Rattle.model.specs.Text.{front, max_word, forms, field_count, form_of, Line, malformed, line, line_in, words_in, bits_in, bad, got, from_line, read_line, floats_of}
-use Rattle.model.proofs.Laws.Text.{Bounded, LineLaw, line_law}
+use Rattle.model.specs.Laws.Text.{Bounded}
+use Rattle.model.proofs.Laws.Text.{LineLaw, line_law}
 use Rattle.text.specs.declared.lines.LineEnd.{LineEnd}
 use Rattle.text.specs.declared.lines.LineEnd.TheVariants as end
 use Rattle.text.specs.declared.put.Progress.{Progress}

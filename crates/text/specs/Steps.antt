@@ -4,7 +4,7 @@ use Rattle.std.proofs.lemmas.List.Edits.{sets}
 use Rattle.model.specs.declared.LineKind.{LineKind}
 use Rattle.model.specs.declared.FieldForm.{FieldForm}
 use Rattle.model.specs.Text.{field_count, form_of, words_in, bits_in, line, line_in, Reading, bad, got, floats_of}
-use Rattle.model.proofs.Laws.Text.{Bounded}
+use Rattle.model.specs.Laws.Text.{Bounded}
 use Rattle.text.specs.declared.put.Progress.{Progress}
 use Rattle.text.specs.declared.put.Step.{Step}
 use Rattle.text.specs.declared.put.Step.TheVariants as step

@@ -1,5 +1,4 @@
 -- `float::case_pattern` meets its contract: each arm is a clause of `case_pattern`. Assumes nothing.
-use Rattle.std.proofs.Common.{rules}
 use Rattle.float.specs.Narrowing.{case_pattern}
 use Rattle.float.proofs.case_pattern.Goals as goal
 

@@ -1,5 +1,5 @@
 -- `float::ceiling_from` meets its contract: below 2 ^ 24 the test tells whether there is a remainder, and from there on there is none. Assumes nothing.
-use Rattle.std.proofs.Common.{◌≡◌, ◌+◌, ◌^◌, ◌≤◌, cond, pos, sym, ◌∙◌, add-zero, arith, le→leb, rules}
+use Rattle.std.proofs.Common.{◌≡◌, ◌+◌, ◌^◌, ◌≤◌, cond, pos, sym, ◌∙◌, add-zero, arith, le→leb}
 use denote.Floats.{passes}
 use lib.Ieee.{binary32, of_bits, lt, of_int, in_float, to_unsigned}
 use Rattle.model.specs.Numbers.{ceiling_index}

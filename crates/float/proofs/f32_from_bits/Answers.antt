@@ -1,5 +1,4 @@
 -- `float::f32_from_bits` meets its contract: the patterns above the infinity's are the NaNs. Assumes nothing.
-use Rattle.std.proofs.Common.{rules}
 use lib.Ieee.{binary32}
 use Rattle.float.proofs.Patterns.{above_infinity, up_to_infinity}
 use Rattle.float.proofs.f32_from_bits.Goals as goal

@@ -1,5 +1,4 @@
 -- `float::f32_to_bits` meets its contract: only a NaN differs from itself. Assumes nothing.
-use Rattle.std.proofs.Common.{rules}
 use lib.Ieee.{binary32}
 use Rattle.float.proofs.Patterns.{differs_is_nan, equals_is_none}
 use Rattle.float.proofs.f32_to_bits.Goals as goal

@@ -1,5 +1,4 @@
 -- `float::f64_to_bits` meets its contract: only a NaN differs from itself. Assumes nothing.
-use Rattle.std.proofs.Common.{rules}
 use lib.Ieee.{binary64}
 use Rattle.float.proofs.Patterns.{differs_is_nan, equals_is_none}
 use Rattle.float.proofs.f64_to_bits.Goals as goal

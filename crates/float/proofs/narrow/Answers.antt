@@ -1,5 +1,5 @@
 -- `float::narrow` meets its contract: the case's pattern under the sign is the narrowed value's, by `narrow_bits`. Assumes nothing.
-use Rattle.std.proofs.Common.{◌≡◌, ◌^◌, ◌<◌, leb, sym, ◌∙◌, zero-add, arith, rules, le-leb}
+use Rattle.std.proofs.Common.{◌≡◌, ◌^◌, ◌<◌, leb, sym, ◌∙◌, zero-add, arith, le-leb}
 use lib.Ieee.{binary64, to_bits}
 use denote.Floats.{passes}
 use borrow.Author.Tests.{lt-leb}

@@ -1,5 +1,4 @@
 -- `float::narrow_case` meets its contract: what its tests found is what the case's predicate asks. Assumes nothing.
-use Rattle.std.proofs.Common.{rules}
 use Rattle.float.proofs.Narrowing.{falls_nan, falls_infinite, falls_too_large, falls_normal, falls_subnormal, falls_zero}
 use Rattle.float.proofs.narrow_case.Goals as goal
 

@@ -1,5 +1,5 @@
 -- `float::rounded_pattern` meets its contract, a range of exponents at a time; a rounded significand has 25 digits at most. Assumes nothing.
-use Rattle.std.proofs.Common.{◌+◌, ◌^◌, arith, rules}
+use Rattle.std.proofs.Common.{◌+◌, ◌^◌, arith}
 use Rattle.float.proofs.Rounding.{closest_le}
 use Rattle.float.proofs.Narrowing.{rounds_normal, rounds_low, rounds_zero}
 use Rattle.float.proofs.rounded_pattern.Goals as goal

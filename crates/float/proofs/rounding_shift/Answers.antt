@@ -1,5 +1,5 @@
 -- `float::rounding_shift` meets its contract: below, above or at half the unit, the three cases of `closest`. Assumes nothing.
-use Rattle.std.proofs.Common.{◌≡◌, ℕ, zero, suc, ◌-◌, ◌*◌, ◌/◌, ◌%◌, ◌^◌, ◌<◌, sym, ◌∙◌, lt_of_lt_of_le, mod-eq_of_lt, div-lt_iff_lt-mul, mul-le-mul_left, one-mul, pow-suc, add-one, arith, pow_pos, pow_mono, rules}
+use Rattle.std.proofs.Common.{◌≡◌, ℕ, zero, suc, ◌*◌, ◌/◌, ◌%◌, ◌^◌, ◌<◌, sym, ◌∙◌, lt_of_lt_of_le, mod-eq_of_lt, div-lt_iff_lt-mul, mul-le-mul_left, one-mul, pow-suc, add-one, arith, pow_pos, pow_mono, rules}
 use lib.Pow.{pow-lt}
 use Rattle.float.proofs.Rounding.{closest_down, closest_tie, closest_up}
 use Rattle.float.proofs.rounding_shift.Goals as goal

@@ -1,5 +1,4 @@
 -- `layout::number` meets its contract: past the end `get_or` gives its default, and 0 / 0 is NaN. Assumes nothing.
-use borrow.Author.Rules.{rules}
 use mathlib.Core.Path.{sym}
 use lib.Ieee.{nan, of_bits, div}
 use lib.ListN.{get_or-eq_default}

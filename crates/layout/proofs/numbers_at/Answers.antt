@@ -1,5 +1,4 @@
 -- `layout::numbers_at` meets its contract: two numbers for each transition before, from the state's first on, and small places. Assumes nothing.
-use borrow.Author.Rules.{rules}
 use Prim.Native.Nat.{◌+◌, ◌*◌, ◌≤◌}
 use native.Mathlib.Omega.{arith}
 use Rattle.model.specs.Text.{max_word}

@@ -1,5 +1,4 @@
 -- `layout::parent` meets its contract: it is the word at its place. Assumes nothing.
-use borrow.Author.Rules.{rules}
 use Rattle.model.specs.Plan.{parent}
 use Rattle.layout.proofs.parent.Goals as goal
 

@@ -1,5 +1,4 @@
 -- `layout::pose_at` meets its contract: nothing overflows. Assumes nothing.
-use borrow.Author.Rules.{rules}
 use Prim.Native.Nat.{◌*◌, ◌≤◌}
 use native.Mathlib.Nat.{le_of_lt, mul-le-mul}
 use native.Mathlib.Omega.{arith}

@@ -1,5 +1,4 @@
 -- `layout::rate` meets its contract: the numbers begin with the rates. Assumes nothing.
-use borrow.Author.Rules.{rules}
 use Rattle.model.specs.Plan.{number, number_at}
 use Rattle.layout.proofs.rate.Goals as goal
 

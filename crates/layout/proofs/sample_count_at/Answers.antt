@@ -1,5 +1,4 @@
 -- `layout::sample_count_at` meets its contract: the parents end there. Assumes nothing.
-use borrow.Author.Rules.{rules}
 use Rattle.model.specs.Plan.{sample_count_at}
 use Rattle.layout.proofs.sample_count_at.Goals as goal
 

@@ -1,10 +1,7 @@
 -- `layout::samples_before` meets its contract. Invariant: the sum is of the first k counts, each a word. Assumes nothing.
-use borrow.Author.Rules.{rules}
-use Prim.Native.Nat.{◌*◌, ◌-◌, ◌≤◌}
 use mathlib.Core.Path.{◌≡◌, refl}
 use native.Mathlib.Numerals.{add-one}
 use native.Mathlib.Omega.{arith}
-use Rattle.model.specs.Text.{max_word}
 use Rattle.model.specs.Plan.{total, sample_count_at, samples_before, sample_count}
 use Rattle.layout.proofs.samples_before.Goals as goal
 

@@ -1,12 +1,12 @@
 -- `layout::state_layout` meets its contract. Invariant: the places and the count are those of state s. The check has seen that the words are there,
 -- and its limits keep the sums small. Assumes nothing.
-use Prim.Native.Nat.{◌+◌, ◌*◌, ◌-◌, ◌≤◌, ◌<◌}
+use Prim.Native.Nat.{◌+◌, ◌*◌, ◌≤◌, ◌<◌}
 use mathlib.Core.Path.{◌≡◌, refl, ap}
 use native.Mathlib.Nat.{div-le_self}
 use native.Mathlib.Omega.{arith}
 use lib.ListN.{length}
 use Rattle.model.specs.Text.{max_word}
-use Rattle.model.specs.Plan.{word, state_count, state_at, total, clip_nodes_before, transitions_before, number_at, Value}
+use Rattle.model.specs.Plan.{word, state_count, total, clip_nodes_before, transitions_before, number_at}
 use Rattle.layout.specs.Layout.{layout_of}
 use Rattle.layout.proofs.Laws.{state_ok, counts_read, clips_small, values_small, state_next, values_next, clips_next, state_found}
 use Rattle.layout.proofs.state_layout.Goals as goal

@@ -1,14 +1,8 @@
 -- `layout::state_layout` meets its contract. Invariant: the places and the count are those of state s. The check has seen that the words are there,
 -- and its limits keep the sums small. Assumes nothing.
-use Prim.Native.Nat.{◌+◌, ◌*◌, ◌-◌, ◌≤◌, ◌<◌}
-use mathlib.Core.Path.{◌≡◌, refl, ap}
-use native.Mathlib.Nat.{div-le_self}
-use native.Mathlib.Omega.{arith}
-use lib.ListN.{length}
-use Rattle.model.specs.Text.{max_word}
-use Rattle.model.specs.Plan.{word, state_count, state_at, total, clip_nodes_before, transitions_before, number_at, Value}
-use Rattle.layout.specs.Layout.{layout_of}
-use Rattle.layout.proofs.Laws.{state_ok, counts_read, clips_small, values_small, state_next, values_next, clips_next, state_found}
+use Prim.Native.Nat.{◌-◌, ◌≤◌}
+use mathlib.Core.Path.{◌≡◌}
+use Rattle.model.specs.Plan.{state_at, clip_nodes_before, number_at, Value}
 use Rattle.layout.proofs.state_layout.Given as goal
 
 abbrev pub invariant-loop-s : goal.invariant-loop-s

@@ -1,5 +1,4 @@
 -- `layout::word` meets its contract: past the end `get_or` gives its default, and a u16 is at most `max_word`. Assumes nothing.
-use borrow.Author.Rules.{rules}
 use mathlib.Core.Path.{refl, sym}
 use native.Mathlib.Omega.{arith}
 use lib.ListN.{get_or-eq_default}

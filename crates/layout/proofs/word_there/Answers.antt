@@ -1,5 +1,4 @@
 -- `layout::word_there` meets its contract: a u16 fits. Assumes nothing.
-use borrow.Author.Rules.{rules}
 use mathlib.Core.Path.{refl}
 use native.Mathlib.Omega.{arith}
 use Rattle.model.specs.Plan.{word}

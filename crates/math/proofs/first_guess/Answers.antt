@@ -1,5 +1,5 @@
 -- `math::first_guess` meets its contract: by the pattern's top bit. Assumes nothing.
-use Rattle.std.proofs.Common.{arith, rules, le-leb}
+use Rattle.std.proofs.Common.{arith, le-leb}
 use borrow.Author.Tests.{lt-leb}
 use Rattle.model.specs.Numbers.{first_guess}
 use Rattle.math.proofs.first_guess.Goals as goal

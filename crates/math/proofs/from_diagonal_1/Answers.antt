@@ -1,5 +1,4 @@
 -- `math::from_diagonal_1` meets its contract: it is case 0 of the turned matrix, turned back. Assumes nothing.
-use Rattle.std.proofs.Common.{rules}
 use Rattle.model.specs.Rotations.{quaternion, from_diagonal}
 use Rattle.math.proofs.Laws.{turned_case}
 use Rattle.math.proofs.from_diagonal_1.Goals as goal

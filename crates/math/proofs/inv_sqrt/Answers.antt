@@ -1,5 +1,4 @@
 -- `math::inv_sqrt` meets its contract: it is the definition, step by step. Assumes nothing.
-use Rattle.std.proofs.Common.{rules}
 use Rattle.model.specs.Numbers.{inv_sqrt}
 use Rattle.math.proofs.inv_sqrt.Goals as goal
 

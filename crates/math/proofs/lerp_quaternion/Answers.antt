@@ -1,5 +1,4 @@
 -- `math::lerp_quaternion` meets its contract: it is the definition, step by step. Assumes nothing.
-use Rattle.std.proofs.Common.{rules}
 use Rattle.model.specs.Rotations.{normalised, lerp_quaternion}
 use Rattle.math.proofs.lerp_quaternion.Goals as goal
 

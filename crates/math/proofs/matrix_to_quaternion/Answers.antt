@@ -1,5 +1,4 @@
 -- `math::matrix_to_quaternion` meets its contract: its last step is `scaled_by_root`. Assumes nothing.
-use Rattle.std.proofs.Common.{rules}
 use Rattle.math.proofs.matrix_to_quaternion.Goals as goal
 
 pub returns : goal.returns

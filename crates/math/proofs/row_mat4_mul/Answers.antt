@@ -1,5 +1,4 @@
 -- `math::row_mat4_mul` meets its contract: row by row. Assumes nothing.
-use Rattle.std.proofs.Common.{rules}
 use Rattle.model.specs.Rotations.{product}
 use Rattle.math.proofs.row_mat4_mul.Goals as goal
 

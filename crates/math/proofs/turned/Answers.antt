@@ -1,5 +1,4 @@
 -- `math::turned` meets its contract: row by row. Assumes nothing.
-use Rattle.std.proofs.Common.{rules}
 use Rattle.math.proofs.turned.Goals as goal
 
 pub returns : goal.returns

@@ -1,5 +1,4 @@
 -- `math::unscaled_rotation` meets its contract: the tests pick the case. Assumes nothing.
-use Rattle.std.proofs.Common.{rules}
 use Rattle.model.specs.Rotations.{matrix_to_quaternion}
 use Rattle.math.proofs.unscaled_rotation.Goals as goal
 

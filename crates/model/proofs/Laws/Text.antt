@@ -6,6 +6,7 @@ use Rattle.model.specs.declared.LineKind.TheVariants.{Figure, Joint, Clip, State
 use Rattle.model.specs.declared.FieldForm.{FieldForm}
 use Rattle.model.specs.declared.FieldForm.TheVariants.{Decimal, Bits}
 use Rattle.model.specs.Text.{front, comma, line_feed, digit_count, numeral, base_of, is_field, Field, none, field, field_in, max_word, name, forms, field_count, form_of, Line, malformed, line, with_field, field_then, fields_in, begins, line_in, words_in, bits_in}
+use Rattle.model.specs.Laws.Text.{Bounded}
 use Rattle.model.proofs.Laws.Tests.{and_left, and_right}
 use Rattle.model.proofs.Laws.Digits.{run_length, numeral_small}
 
@@ -170,11 +171,6 @@ EachLimit P (Bits ∷ forms) = EachLimit P forms
 
 abbrev pub Words : List FieldForm → Type 0
 Words forms = EachLimit (λ limit. limit ≤ max_word) forms
-
--- a value by the form of its field
-abbrev pub Bounded : FieldForm → ℕ → Type 0
-Bounded (Decimal limit) v = (v ≤ limit) × (v ≤ max_word)
-Bounded Bits v = v < 2 ^ 32
 
 bounded : (forms : List FieldForm) → Words forms → (k v : ℕ) → k < length forms → v ≤ most_of (get_or forms k Bits) → Bounded (get_or forms k Bits) v
 bounded [] words k v h most = absurd (omega arith)

@@ -4,7 +4,7 @@ use Rattle.std.proofs.Common.{arith, sym, ap, ◌∙◌, length-set, get_or-set_
 use Rattle.std.proofs.Math.Decide.{ℕ_discrete, dec_lt}
 use mathlib.Core.List.{List, [], ◌∷◌, map, Memᴰ}
 use Rattle.std.proofs.Math.Seq.{set_out}
-use Rattle.noninterference.proofs.Laws.Lists.{SameAt}
+use Rattle.noninterference.specs.Laws.Lists.{SameAt}
 
 -- related case by case
 pub cond_both {ℓ} : {A : Type ℓ} (R : A → A → Type 0) (b : Bool) {x y z w : A} → (b ≡ true → R x z) → (b ≡ false → R y w) → R (cond b x y) (cond b z w)

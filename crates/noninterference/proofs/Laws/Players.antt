@@ -30,10 +30,10 @@ use Rattle.model.proofs.Laws.Reached.{read_marked}
 use Rattle.model.proofs.Laws.Table.{table_at}
 use Rattle.model.specs.Table.{table_to}
 use Rattle.noninterference.specs.Alike.{Closed, AlikeNumbers, AlikeCall, updates, speeds, sets, frames, questions, AlikeCalls, none, next}
-use Rattle.noninterference.proofs.Laws.Lists.{SameAt}
+use Rattle.noninterference.specs.Laws.Lists.{SameAt}
 use Rattle.noninterference.proofs.Laws.Lists.{cond_both, cond_same, cond_has, same_refl, same_set, map_same}
 use Rattle.noninterference.proofs.Laws.Numbers.{value_same, transition_duration_same}
-use Rattle.noninterference.proofs.Laws.Trees.{SameInstances}
+use Rattle.noninterference.specs.Laws.Trees.{SameInstances}
 use Rattle.noninterference.proofs.Laws.Trees.{synchronized_same, pose_same}
 
 abbrev pub TargetReachable : List ℕ → Transition → Type 0

@@ -19,8 +19,8 @@ use Rattle.model.proofs.Laws.Touched.{touched_blends, touched_a, touched_b}
 use Rattle.model.proofs.Laws.ClipNodes.{same_state}
 use Rattle.model.proofs.Laws.Table.{table_same}
 use Rattle.noninterference.specs.Alike.{Closed, AlikeNumbers}
-use Rattle.noninterference.proofs.Laws.Lists.{SameAt}
-use Rattle.noninterference.proofs.Laws.Trees.{ReachableInstance, instance_of, SameInstances}
+use Rattle.noninterference.specs.Laws.Lists.{SameAt}
+use Rattle.noninterference.specs.Laws.Trees.{ReachableInstance, instance_of, SameInstances}
 use Rattle.noninterference.proofs.Laws.Lists.{cond_both, cond_same, same_set}
 use Rattle.noninterference.proofs.Laws.Numbers.{duration_same, clip_same}
 

@@ -4,7 +4,7 @@ use mathlib.Core.List.{List}
 use Rattle.std.specs.Float.{nan}
 use Rattle.model.specs.Plan.{node_count, is_clip, clip_node_at}
 use Rattle.model.specs.Unseen.{Reachable}
-use Rattle.noninterference.proofs.Laws.Lists.{SameAt}
+use Rattle.noninterference.specs.Laws.Lists.{SameAt}
 
 -- instance n is one that a reachable state uses
 pub data ReachableInstance (plan : List ℕ) : ℕ → Type 0 where

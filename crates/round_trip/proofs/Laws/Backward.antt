@@ -14,7 +14,7 @@ use Rattle.model.specs.Program.{part, line_text, state_text, figure_text}
 use Rattle.round_trip.proofs.Laws.Lines.{Within, line_written}
 use Rattle.round_trip.proofs.Laws.Parts.{Holds, part_one, part_two, holds_all}
 use Rattle.round_trip.proofs.Laws.Rows.{WithinAt}
-use Rattle.round_trip.proofs.Laws.Shape.{numbers_at, joint_row, clip_row, node_row, go_row, pose_row, header, nodes, transitions, states, state_text_lem, figure_text_lem, joints_same, clips_same, states_same, samples_same}
+use Rattle.round_trip.proofs.Laws.Shape.{numbers_at, joint_row, clip_row, node_row, go_row, pose_row, nodes, transitions, states, state_text_lem, figure_text_lem, joints_same, clips_same, states_same, samples_same}
 use Rattle.round_trip.proofs.Laws.Writes.{Undone, bad_got, prefixed_cases, undone_none, undone_behind, undone_prefixed, undone_then, undone_map, undone_text, undone_moved, undone_times, undone_line, undone_row, undone_lines}
 
 -- a state's line
