@@ -1,5 +1,4 @@
 -- `lanes::lane` meets its contract: it is the definition. Assumes nothing.
-use native.Mathlib.Omega.{arith}
 use mathlib.Core.Path.{refl}
 use Rattle.lanes.specs.Lanes.{lane_at}
 use Rattle.lanes.proofs.lane.Goals as goal

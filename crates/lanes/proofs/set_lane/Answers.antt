@@ -1,5 +1,4 @@
 -- `lanes::set_lane` meets its contract: its eight writes are the pose's. Assumes nothing.
-use native.Mathlib.Omega.{arith}
 use borrow.Author.Rules.{rules}
 use Rattle.lanes.proofs.Laws.{written, lane_set}
 use Rattle.lanes.proofs.set_lane.Goals as goal

@@ -1,5 +1,4 @@
 -- `transform::concat` meets its contract: it leaves out the last row of the product, which `from_matrix` does not read. Assumes nothing.
-use borrow.Author.Rules.{rules}
 use mathlib.Core.Path.{◌≡◌, refl, ◌∙◌}
 use Rattle.model.specs.declared.Row.{Row}
 use Rattle.model.specs.declared.Matrix4.{Matrix4}

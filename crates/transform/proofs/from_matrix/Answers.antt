@@ -1,5 +1,4 @@
 -- `transform::from_matrix` meets its contract: part by part. Assumes nothing.
-use borrow.Author.Rules.{rules}
 use Rattle.model.specs.Pose.{from_matrix}
 use Rattle.transform.proofs.from_matrix.Goals as goal
 

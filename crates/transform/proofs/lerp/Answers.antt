@@ -1,5 +1,4 @@
 -- `transform::lerp` meets its contract: part by part. Assumes nothing.
-use borrow.Author.Rules.{rules}
 use Rattle.model.specs.Pose.{lerp}
 use Rattle.transform.proofs.lerp.Goals as goal
 

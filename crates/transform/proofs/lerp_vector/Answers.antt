@@ -1,5 +1,4 @@
 -- `transform::lerp_vector` meets its contract: part by part. Assumes nothing.
-use borrow.Author.Rules.{rules}
 use Rattle.transform.proofs.lerp_vector.Goals as goal
 
 pub returns : goal.returns

@@ -1,5 +1,4 @@
 -- `transform::to_matrix` meets its contract: it is the definition, with the translation stored into the last column. Assumes nothing.
-use borrow.Author.Rules.{rules}
 use Rattle.model.specs.Pose.{to_matrix}
 use Rattle.transform.proofs.to_matrix.Goals as goal
 
