@@ -1,17 +1,11 @@
 -- Document 01, "Page matrices, text, program": names and a refusal as they are written, its whole input prints its whole output, and the limit of J in a text.
 -- Theorems over the definitions.
-use Rattle.std.specs.Prelude.{ℕ, ◌≡◌, refl, List, [] as []ᴸ, ◌∷◌ as ◌∷ᴸ◌, ◌++◌}
-use Prim.Native.Char.{code}
-use Prim.Native.String.{String, [], ◌∷◌}
+use Rattle.std.specs.Prelude.{ℕ, ◌≡◌, refl, List, ◌++◌}
 use Rattle.model.specs.declared.LineKind.TheVariants.{Figure, Joint, Clip, State, Node, Go, Pose}
 use Rattle.model.specs.Text.{bad, digit, digit_count, numeral, is_field, field_in, name, forms, with_field, field_then, fields_in, begins, line_in, words_in, bits_in, prefixed, and_then, times, from_line, read_line, from_state, read_state, read_end, read_figure}
 use Rattle.model.specs.Program.{glyph, digits, places, decimal_text, bits_text, decimal_fields, bits_fields, refused_line, joint_line, joined, played, printed_from, printed_by, printed}
 use Rattle.model.proofs.Laws.Opened.{check_opened, all_opened}
-
--- of ASCII text, where a character's code is its byte
-unfoldable pub bytes : String → List ℕ
-bytes [] = []ᴸ
-bytes (c ∷ s) = code c ∷ᴸ bytes s
+use Rattle.model.specs.BenchText.{bytes, example_text, example_output}
 
 -- the definitions of reading
 unfoldable reading_opened : Unit {0}
@@ -27,19 +21,6 @@ names = (refl, refl, refl, refl, refl, refl, refl)
 pub refusal_written : refused_line 11 3 ≡ bytes "refused,11,3\n"
 unfolding refused_line decimal_fields decimal_text digits places glyph bytes
 refusal_written = refl
-
-unfoldable pub example_text : List ℕ
-example_text =
-    bytes "figure,1,1,0,1,0\n" ++
-    bytes "joint,255\n" ++
-    bytes "clip,1,3f800000,0\n" ++
-    bytes "state,1,0\n" ++
-    bytes "node,0,0,0,0\n" ++
-    bytes "pose,3f800000,40000000,40400000,3f800000,3f800000,00000000,00000000,00000000\n"
-
-unfoldable pub example_output : List ℕ
-example_output =
-    bytes "joint,0,3f800000,00000000,00000000,3f800000,00000000,3f800000,00000000,40000000,00000000,00000000,3f800000,40400000,00000000,00000000,00000000,3f800000\n"
 
 pub printed_example : printed example_text ≡ example_output
 unfolding all_opened reading_opened glyph digits places decimal_text bits_text decimal_fields bits_fields joint_line joined played printed_from printed_by printed bytes example_text example_output

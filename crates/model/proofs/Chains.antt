@@ -7,10 +7,7 @@ use Rattle.model.specs.Check.{check}
 use Rattle.model.specs.Uses.{is_marked, reads, plays, state_marks, parameter_marks, clip_marks, ChainWithin, UsedWithin}
 use Rattle.model.specs.Unseen.{Reachable, Played, Read}
 use Rattle.model.proofs.Laws.Reached.{marked_chain, chain_marked, marked_reachable, reachable_marked, marked_played, played_marked, marked_read, read_marked, marked_reader, reader_marked, marked_player, player_marked}
-
--- 'exactly when'
-abbrev Exactly : Type 0 → Type 0 → Type 0
-Exactly A B = (A → B) × (B → A)
+use Rattle.model.specs.Chains.{Exactly}
 
 module _ (plan : List ℕ) (n : ℕ) (ok : check plan n ≡ accepted) where
   -- ---- by chains of at most S − 1 transitions

@@ -7,6 +7,7 @@ use Rattle.model.proofs.Laws.Opened.{floats_opened}
 use Rattle.model.proofs.Laws.Narrowing.{result_has_sign, finite_keeps_sign, narrow_fits, nan_narrows, infinite_narrows, infinite_is_number, infinite_is, zero_is, pattern_delivers, case_of, falls, only}
 use Rattle.model.specs.declared.Narrowed.{Narrowed}
 use Rattle.model.specs.declared.Narrowed.TheVariants.{Nan, Infinite, TooLarge, Normal, Subnormal, Zero}
+use Rattle.model.specs.ExactlyOne.{Ties}
 
 -- 'every 64-bit pattern falls in exactly one of them': in a case c, and in no other
 pub exactly_one : (b : ℕ) → (c : Narrowed) × FallsIn b c × ((d : Narrowed) → FallsIn b d → d ≡ c)
@@ -26,14 +27,6 @@ narrow_delivers b (Subnormal n) h = pattern_delivers b n h.0 h.2
 narrow_delivers b Zero h = zero_is (rounded_result b) (is_minus b) (narrow_fits (value b)) h.1 (finite_keeps_sign b h.0)
 
 -- ---- the ties between the finite cases: half way between two results, the even one is taken. (Which patterns fall in each case is float's `ranges`.)
-
-pub record Ties : Type 0 where
-  -- 2 ^ -150, half of the least subnormal: to zero
-  pub to_zero : FallsIn 0x3690_0000_0000_0000 Zero
-  -- 2 ^ -126 - 2 ^ -150, between the greatest subnormal and the least normal: up into the normal one
-  pub to_normal : FallsIn 0x380f_ffff_e000_0000 (Normal 0x80_0000)
-  -- 2 ^ 128 - 2 ^ 103, between the greatest float and 2 ^ 128, which is too large: up too
-  pub to_too_large : FallsIn 0x47ef_ffff_f000_0000 TooLarge
 
 pub ties : Ties
 unfolding floats_opened

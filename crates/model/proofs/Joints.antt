@@ -4,17 +4,16 @@ use Rattle.std.specs.Prelude.{ℕ, ◌+◌, ◌*◌, ◌<◌, ◌≤◌, ◌≡�
 use Rattle.std.proofs.Common.{◌∙◌}
 use borrow.Author.Tests.{ne_eqb, le-leb, lt-leb, lt-ltb}
 use Rattle.model.specs.declared.Matrix4.{Matrix4}
-use Rattle.model.specs.Numbers.{0f}
 use Rattle.model.specs.Rotations.{identity_matrix}
-use Rattle.model.specs.Answers.{Verdict, accepted, refused, ◌then◌, require}
+use Rattle.model.specs.Answers.{accepted, refused, ◌then◌, require}
 use Rattle.model.specs.Plan.{root, byte_root, max_byte_root_joints, joint_count, parent_at, parent, is_root_word, is_root}
 use Rattle.model.specs.Check.{word_is, check_parent, check}
-use Rattle.model.specs.Controller.{blank, frame_verdict}
 use Rattle.model.specs.Skeleton.{parent_matrix}
 use Rattle.model.proofs.Laws.Opened.{check_opened, all_opened}
 use Rattle.model.proofs.Laws.Tests.{and_true}
 use Rattle.model.proofs.Laws.Roots.{root_always, byte_root_lem}
-use Rattle.model.proofs.Bench.{with_parents}
+use Rattle.model.specs.Bench.{with_parents}
+use Rattle.model.specs.Joints.{frame_of_roots}
 
 module _ (plan : List ℕ) (j : ℕ) where
   -- 'root is 65535', whatever J
@@ -69,10 +68,6 @@ unfolding check_opened with_parents
 under_joint_255 = refl
 
 -- ---- the output: 16 floats for each of 400 joints are enough, and one less is not; of 65 joints, those of 64 are not
-
--- the answer to a frame of so many roots with an output of so many floats
-abbrev frame_of_roots : ℕ → ℕ → Verdict
-frame_of_roots joints output_length = frame_verdict (with_parents (replicate joints root)) (replicate (1 + 8 * joints) 0f) blank output_length
 
 pub output_400 : (frame_of_roots 400 6400 ≡ accepted) × (frame_of_roots 400 6399 ≡ refused 10 0 0)
 unfolding all_opened with_parents

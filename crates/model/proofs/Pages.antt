@@ -1,29 +1,30 @@
 -- Document 02, Card 5: the matrices of a page frame, under turned parents and at roots. Theorems over the definitions.
-use Rattle.std.specs.Prelude.{ℕ, zero, suc, ◌<◌, ◌≡◌, true, false, List, [], ◌∷◌, map, length, Float}
+use Rattle.std.specs.Prelude.{ℕ, ◌<◌, ◌≡◌, true, false, List, [], ◌∷◌, map, length, Float}
 use Rattle.std.proofs.Common.{arith, ap, ◌∙◌}
 use Rattle.std.proofs.Math.Path.{refl, sym}
 use Rattle.std.proofs.Math.ListN.{get_or}
 use Rattle.std.specs.Float.{nan, inf, binary32}
-use Rattle.std.specs.Float.Ieee.{neg, sub, to_bits, of_bits}
+use Rattle.std.specs.Float.Ieee.{neg, sub, to_bits}
 use Rattle.model.specs.declared.Pose.{Pose}
 use Rattle.model.specs.declared.Matrix4.{Matrix4}
 use Rattle.model.specs.declared.Player.{Player}
 use Rattle.model.specs.declared.FrameKind.{FrameKind}
 use Rattle.model.specs.declared.FrameKind.TheVariants.{Ordinary, Page}
 use Rattle.model.specs.Numbers.{◌+₃₂◌, ◌*₃₂◌, 0f, 1f, half}
-use Rattle.model.specs.Rotations.{quaternion, row, identity_matrix, product, floats, quaternion_to_matrix}
-use Rattle.model.specs.Pose.{vector, to_matrix}
+use Rattle.model.specs.Rotations.{row, identity_matrix, product, floats, quaternion_to_matrix}
+use Rattle.model.specs.Pose.{to_matrix}
 use Rattle.model.specs.Answers.{accepted}
-use Rattle.model.specs.Plan.{root, joint_count, parent, is_root}
+use Rattle.model.specs.Plan.{joint_count, parent, is_root}
 use Rattle.model.specs.Check.{check}
 use Rattle.model.specs.Controller.{now_at, elapsed, joint_pose}
 use Rattle.model.specs.Skeleton.{upper_transposed, own_matrix, parent_matrix, joint_matrix, joint_matrices}
 use Rattle.model.specs.Run.{frame_stepped, frame_matrices, Frame, chosen_floats}
-use Rattle.model.proofs.Bench.{with_parents}
+use Rattle.model.specs.Bench.{with_parents}
 use Rattle.model.proofs.Laws.Opened.{all_opened}
 use Rattle.model.proofs.Laws.Table.{table_at, table_same}
 use Rattle.model.proofs.Laws.Passed.{parent_earlier}
 use Rattle.model.proofs.Laws.Signs.{neg_neg, mul_neg, mul_neg_neg, twice_neg}
+use Rattle.model.specs.Pages.{conjugated, shows, far_turned, root_shows}
 
 -- ---- a frame of either kind, as it is finished
 
@@ -70,9 +71,6 @@ ordinary_stays plan pose_of earlier j = ap (product (parent_matrix plan earlier 
 
 -- ---- what the transposing does to a rotation: it is the matrix of the conjugate, float by float, whatever the pose holds
 
-abbrev conjugated : Pose → Pose
-conjugated p = let q = p.rotation in record { translation = p.translation; scale = p.scale; rotation = quaternion q.w (neg q.x) (neg q.y) (neg q.z) }
-
 pub own_conjugated : (p : Pose) → own_matrix Page (to_matrix p) ≡ to_matrix (conjugated p)
 unfolding own_matrix upper_transposed to_matrix quaternion_to_matrix sub
 own_conjugated p =
@@ -107,20 +105,6 @@ page_conjugated plan pose_of n =
 
 -- ---- a hand on a turned arm. Each turns by a third, about axes of their own, so nothing is rounded
 
-abbrev arm : Pose
-arm = record { translation = vector half 0f 0f; scale = 1f; rotation = quaternion half half half half }
-
-abbrev hand : Pose
-hand = record { translation = vector 0f half 0f; scale = 1f; rotation = quaternion half (neg half) half half }
-
-abbrev arm_and_hand : ℕ → Pose
-arm_and_hand zero = arm
-arm_and_hand (suc j) = hand
-
--- what a frame of this kind shows of them
-abbrev shows : FrameKind → List Matrix4
-shows kind = joint_matrices kind (with_parents (root ∷ 0 ∷ [])) arm_and_hand 2
-
 pub turned_arm_ordinary : shows Ordinary
     ≡ record { r0 = row 0f 1f 0f half; r1 = row 0f 0f 1f 0f; r2 = row 1f 0f 0f 0f; r3 = row 0f 0f 0f 1f }
     ∷ record { r0 = row (neg 1f) 0f 0f 1f; r1 = row 0f 1f 0f 0f; r2 = row 0f 0f (neg 1f) 0f; r3 = row 0f 0f 0f 1f } ∷ []
@@ -142,15 +126,6 @@ not_at_the_end e =
     omega arith
 
 -- ---- a root is no special case: with an infinite entry of its own, the product has 0 × infinity
-
-abbrev 2^64f : Float
-2^64f = of_bits binary32 0x5f80_0000
-
-abbrev far_turned : Pose
-far_turned = record { translation = vector 0f 0f 0f; scale = 1f; rotation = quaternion 1f 2^64f 0f 0f }
-
-abbrev root_shows : FrameKind → Matrix4
-root_shows kind = get_or (joint_matrices kind (with_parents (root ∷ [])) (λ _. far_turned) 1) 0 identity_matrix
 
 pub infinite_root : root_shows Page
     ≡ record { r0 = row 1f nan nan 0f; r1 = row 0f (inf true) nan 0f; r2 = row 0f nan (inf true) 0f; r3 = row 0f nan nan 1f }

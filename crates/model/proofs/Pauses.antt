@@ -1,25 +1,24 @@
 -- Document 02, Card 2: what a clip without samples shows, what a lerp node leaves alone that has one for an input, and that N may be 0. Theorems over the
 -- definitions.
-use Rattle.std.specs.Prelude.{ℕ, ◌+◌, ◌*◌, ◌<◌, ◌≡◌, refl, ◌⊎◌, true, false, ◌&&◌, List, [], ◌∷◌, Float}
+use Rattle.std.specs.Prelude.{ℕ, ◌<◌, ◌≡◌, refl, ◌⊎◌, false, ◌&&◌, List, Float}
 use Rattle.std.proofs.Common.{arith, ap, inl, inr}
 use Rattle.std.specs.Float.{binary32}
 use Rattle.std.specs.Float.Ieee.{to_bits}
-use Rattle.model.specs.declared.FrameKind.TheVariants.{Ordinary}
-use Rattle.model.specs.Numbers.{0f, 1f}
+use Rattle.model.specs.Numbers.{0f}
 use Rattle.model.specs.Pose.{identity_pose, lerp}
-use Rattle.model.specs.Answers.{accepted, refused}
-use Rattle.model.specs.Plan.{max_samples, sample_count, is_clip, is_lerp, input_a, input_b, Rate}
+use Rattle.model.specs.Answers.{accepted}
+use Rattle.model.specs.Plan.{sample_count, is_clip, is_lerp, input_a, input_b, Rate}
 use Rattle.model.specs.Check.{check}
 use Rattle.model.specs.Clips.{clip_pose}
 use Rattle.model.specs.Tree.{plays_samples, is_touched, synchronize_node}
-use Rattle.model.specs.Run.{start_player, Frame, chosen_floats}
 use Rattle.model.specs.Unseen.{Played, Unseen}
 use Rattle.model.proofs.Laws.Marks.{unlike}
 use Rattle.model.proofs.Laws.Reached.{played_marked}
 use Rattle.model.proofs.Laws.Opened.{check_opened, floats_opened, all_opened}
 use Rattle.model.proofs.Laws.Tests.{and_true, and_false}
 use Rattle.model.proofs.Laws.Clips.{empty, not_empty, pose_of_empty}
-use Rattle.model.proofs.Stopping.{two_clips}
+use Rattle.model.specs.Stopping.{two_clips}
+use Rattle.model.specs.Pauses.{Pauses, CountJudged, Shows}
 
 -- 'the identity pose at every joint, whatever its ending', at every time. With samples: `held` and `below_as_before` of Stopping
 pub shows_identity : (plan : List ℕ) (numbers : List Float) (c : ℕ) → sample_count plan c ≡ 0 → (j : ℕ) (local : Float) → clip_pose plan numbers c j local ≡ identity_pose
@@ -34,10 +33,6 @@ not_a_lerp e =
     omega arith
 
 -- ---- 'not synchronised'
-
--- node i plays a clip without samples
-abbrev Pauses : List ℕ → ℕ → ℕ → Type 0
-Pauses plan s i = (is_clip plan s i ≡ true) × (sample_count plan (input_a plan s i) ≡ 0)
 
 module _ (plan : List ℕ) (s : ℕ) where
   pauses : (k : ℕ) → Pauses plan s k → plays_samples plan s k ≡ false
@@ -68,30 +63,12 @@ module _ (plan : List ℕ) (s : ℕ) where
 
 -- ---- 'N may be 0'
 
-pub record CountJudged : Type 0 where
-  -- a clip without samples has no poses: of these numbers two are rates
-  pub none : check (two_clips 0 0 1 0) 10 ≡ accepted
-  pub stopping : check (two_clips 0 1 1 0) 10 ≡ accepted
-  pub in_both : check (two_clips 0 0 0 1) 2 ≡ accepted
-  pub poses_left_over : check (two_clips 0 0 1 0) 18 ≡ refused 7 0 0
-  -- its ending is judged as any other's
-  pub wrong_ending : check (two_clips 0 2 1 0) 10 ≡ refused 14 7 0
-  -- '2 is no longer given for it', but above the limit
-  pub most : check (two_clips max_samples 0 0 0) (2 + 8 * max_samples) ≡ accepted
-  pub too_many : check (two_clips (max_samples + 1) 0 0 0) 2 ≡ refused 2 6 0
-
 pub count_judged : CountJudged
 unfolding check_opened
 count_judged =
     record { none = refl; stopping = refl; in_both = refl; poses_left_over = refl; wrong_ending = refl; most = refl; too_many = refl }
 
 -- ---- a whole frame: one joint that plays a pause, whatever both clips' rates and ext are
-
-abbrev Shows : List ℕ → Float → Float → Float → Type 0
-Shows plan rate other ext =
-    let numbers : List Float = rate ∷ other ∷ [] in
-    chosen_floats plan numbers (0 ∷ []) (start_player plan numbers) (Frame Ordinary ext 16)
-    ≡ (1f ∷ 0f ∷ 0f ∷ 0f ∷ 0f ∷ 1f ∷ 0f ∷ 0f ∷ 0f ∷ 0f ∷ 1f ∷ 0f ∷ 0f ∷ 0f ∷ 0f ∷ 1f ∷ []) ∷ []
 
 pub pause_shown : (rate other ext : Float) → Shows (two_clips 0 0 0 0) rate other ext × Shows (two_clips 0 1 0 0) rate other ext
 unfolding all_opened

@@ -20,5 +20,16 @@ pub mod Promises
 -- document 02's, one file a card, and the classes of floats that they speak of
 pub mod Classes
 pub mod Narrowing
--- what laws in proofs/ speak of
+-- what theorems in proofs/ speak of
+pub mod Bench
+pub mod BenchText
+pub mod Wrap
+pub mod Stopping
+pub mod Pauses
+pub mod Joints
+pub mod Pages
+pub mod ExactlyOne
+pub mod Chains
+pub mod Unused
+pub mod Repeats
 pub mod Laws

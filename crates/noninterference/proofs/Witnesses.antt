@@ -13,7 +13,7 @@ use Rattle.model.specs.declared.LoopCount.{LoopCount}
 use Rattle.model.specs.Numbers.{0f}
 use Rattle.model.specs.declared.Answer.{Answer}
 use Rattle.model.specs.Answers.{accepted, values, unless_refused}
-use Rattle.model.specs.Plan.{byte_root, joint_count, is_root, Rate, Value, Duration, PoseFloat}
+use Rattle.model.specs.Plan.{joint_count, is_root, Rate, Value, Duration, PoseFloat}
 use Rattle.model.specs.Check.{check}
 use Rattle.model.specs.Controller.{with_speed, updated, parameter_set, set_verdict, frame_verdict}
 use Rattle.model.specs.Skeleton.{written}
@@ -22,13 +22,15 @@ use Rattle.model.specs.Run.{start_verdict, start_player, frame_player, frame_mat
 use Rattle.model.specs.Uses.{is_marked, parameter_marks}
 use Rattle.model.specs.Promises.{LoopsCounted}
 use Rattle.model.proofs.Repeats.{equation, bound}
-use Rattle.model.proofs.Bench.{with_parents, four_hundred}
-use Rattle.model.proofs.Unused.{two_states, first_only, unused_unseen}
+use Rattle.model.specs.Bench.{with_parents, four_hundred}
+use Rattle.model.specs.Unused.{two_states}
+use Rattle.model.proofs.Unused.{first_only, unused_unseen}
 use Rattle.model.proofs.Laws.Opened.{check_opened}
 use Rattle.model.proofs.Laws.Marks.{unlike}
 use Rattle.noninterference.specs.Alike.{Closed, UnseenAt, AlikeNumbers, AlikeCall, sets}
 use Rattle.noninterference.proofs.Laws.Answers.{Answerable, require_answerable, check_answerable, frame_answerable, loops_answerable}
 use Rattle.noninterference.specs.Trace.{Event, Trace, end, update, set_speed, set_parameter, frame, ask_loops, Session, calls}
+use Rattle.noninterference.specs.Witnesses.{two_roots, UnusedPlaces}
 
 -- ---- sessions
 
@@ -111,10 +113,6 @@ unread_alike plan n v w unread = sets n v w (λ read. absurd (unlike read unread
 
 -- ---- and there are unseen places
 
--- of an unchosen joint: of two roots with joint 0 chosen, joint 1's translation x, at place 9
-unfoldable pub two_roots : List ℕ
-two_roots = with_parents (replicate 2 byte_root)
-
 pub two_roots_start : check two_roots 17 ≡ accepted
 unfolding check_opened with_parents two_roots
 two_roots_start = refl
@@ -143,14 +141,6 @@ last_of_400_closed = root_closed four_hundred 399 (omega arith) refl
 pub first_of_400_unseen : UnseenAt four_hundred (399 ∷ []) 1
 unfolding check_opened with_parents four_hundred
 first_of_400_unseen = record { name = PoseFloat 0 0 0 0; in_plan = (omega arith, omega arith, omega arith, omega arith); here = refl; unseen = inl (λ m. absurd (omega (arith, only 399 0 m))) }
-
--- of what no reachable state uses, whatever joints are chosen: the rate of `two_states`' clip 1, the value and the duration of its state 1, and the first
--- float of clip 1's poses
-pub record UnusedPlaces (chosen : List ℕ) : Type 0 where
-  pub rate : UnseenAt two_states chosen 1
-  pub value : UnseenAt two_states chosen 2
-  pub duration : UnseenAt two_states chosen 3
-  pub pose : UnseenAt two_states chosen 20
 
 pub unused_places : (chosen : List ℕ) → UnusedPlaces chosen
 unfolding check_opened two_states

@@ -9,7 +9,8 @@ use Rattle.model.specs.Text.{max_word, digit, digit_count, numeral, is_field, fi
 use Rattle.model.specs.Program.{glyph, digits, places, decimal_text, bits_text, decimal_fields, bits_fields, joined, part, fields_text, line_text, state_text, figure_text}
 use Rattle.round_trip.specs.Counted.{Counted}
 use Rattle.model.specs.Run.{start_verdict}
-use Rattle.model.proofs.Bench.{with_parents, four_hundred, joints_400}
+use Rattle.model.specs.Bench.{with_parents, four_hundred}
+use Rattle.model.proofs.Bench.{joints_400}
 use Rattle.model.proofs.Laws.Tests.{and_left, and_right}
 use Rattle.round_trip.specs.RoundTrip.{floats_text, ReadsFloats}
 use Rattle.round_trip.proofs.Laws.Lines.{AtMost, most_get_or}

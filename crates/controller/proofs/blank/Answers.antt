@@ -1,5 +1,4 @@
 -- `controller::blank` meets its contract, part by part. Assumes nothing.
-use borrow.Author.Rules.{rules}
 use mathlib.Core.Path.{ap}
 use mathlib.Core.List.{List}
 use lib.ListN.{replicate}

@@ -1,11 +1,7 @@
 -- `controller::blank_instances` meets its contract. Invariant: the first n instances are blank, and zeros follow. Assumes nothing.
-use borrow.Author.Rules.{rules}
-use Prim.Native.Nat.{◌*◌, ◌-◌, ◌≤◌}
 use native.Mathlib.Omega.{arith}
 use mathlib.Core.Path.{◌≡◌, refl, ◌∙◌}
-use mathlib.Core.List.{◌++◌, append-nil}
-use lib.ListN.{replicate}
-use Rattle.model.specs.Numbers.{0f}
+use mathlib.Core.List.{append-nil}
 use Rattle.model.specs.Plan.{max_clip_nodes}
 use Rattle.model.specs.Clips.{blank_instances}
 use Rattle.controller.proofs.Laws.{blank_next}

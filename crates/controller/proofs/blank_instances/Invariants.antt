@@ -1,14 +1,11 @@
 -- `controller::blank_instances` meets its contract. Invariant: the first n instances are blank, and zeros follow. Assumes nothing.
-use borrow.Author.Rules.{rules}
 use Prim.Native.Nat.{◌*◌, ◌-◌, ◌≤◌}
-use native.Mathlib.Omega.{arith}
-use mathlib.Core.Path.{◌≡◌, refl, ◌∙◌}
-use mathlib.Core.List.{◌++◌, append-nil}
+use mathlib.Core.Path.{◌≡◌}
+use mathlib.Core.List.{◌++◌}
 use lib.ListN.{replicate}
 use Rattle.model.specs.Numbers.{0f}
 use Rattle.model.specs.Plan.{max_clip_nodes}
 use Rattle.model.specs.Clips.{blank_instances}
-use Rattle.controller.proofs.Laws.{blank_next}
 use Rattle.controller.proofs.blank_instances.Given as goal
 
 abbrev pub invariant-loop-n : goal.invariant-loop-n

@@ -1,5 +1,4 @@
 -- `controller::framed` meets its contract: that of `frames::frame`, on the player that its parts make up. Assumes nothing.
-use borrow.Author.Rules.{rules}
 use Rattle.controller.proofs.framed.Goals as goal
 
 pub returns : goal.returns

@@ -1,5 +1,4 @@
 -- `controller::fresh` meets its contract: the blank player in the initial state, with all states synchronised. Assumes nothing.
-use borrow.Author.Rules.{rules}
 use mathlib.Core.Path.{ap}
 use Rattle.model.specs.declared.Player.{Player}
 use Rattle.model.specs.Controller.{blank}

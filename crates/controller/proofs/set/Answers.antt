@@ -1,5 +1,4 @@
 -- `controller::set` meets its contract: either number is on its side of the limit. Assumes nothing.
-use borrow.Author.Rules.{rules}
 use borrow.Author.Tests.{le-ltb, lt-ltb}
 use Rattle.model.specs.Answers.{values, require, unless_refused}
 use Rattle.controller.proofs.set.Goals as goal

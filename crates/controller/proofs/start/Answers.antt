@@ -1,5 +1,4 @@
 -- `controller::start` meets its contract: a refusal of the check is handed on, else the player is fresh. Assumes nothing.
-use borrow.Author.Rules.{rules}
 use Rattle.blend_tree.specs.Blocks.{Playable}
 use Rattle.frames.proofs.Laws.{playable}
 use Rattle.controller.proofs.Laws.{start_handed, start_accepted}

@@ -1,6 +1,4 @@
 -- `controller::synchronize_states` meets its contract. Invariant: the first s states are synchronised. Assumes nothing.
-use borrow.Author.Rules.{rules}
-use Prim.Native.Nat.{◌-◌, ◌≤◌}
 use native.Mathlib.Omega.{arith}
 use mathlib.Core.Path.{◌≡◌, refl}
 use Rattle.model.specs.Controller.{synchronize_states}

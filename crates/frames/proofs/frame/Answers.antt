@@ -1,5 +1,4 @@
 -- `frames::frame` meets its contract: a refusal of the check or of the player is handed on, else the frame is played. Assumes nothing.
-use borrow.Author.Rules.{rules}
 use native.Mathlib.Omega.{arith}
 use Rattle.model.proofs.Laws.Passed.{few_joints}
 use Rattle.layout.proofs.Laws.{joints_found}

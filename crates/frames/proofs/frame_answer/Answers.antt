@@ -1,6 +1,4 @@
 -- `frames::frame_answer` meets its contract: each return is one of the verdict's cases. Assumes nothing.
-use borrow.Author.Rules.{rules}
-use borrow.Author.Tests.{not-true, not-false}
 use mathlib.Core.Path.{refl}
 use Rattle.model.specs.Answers.{values}
 use Rattle.frames.proofs.Laws.{player_refuses, output_refuses, nothing_refuses}

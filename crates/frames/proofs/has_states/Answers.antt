@@ -1,5 +1,4 @@
 -- `frames::has_states` meets its contract: both tests. Assumes nothing.
-use borrow.Author.Rules.{rules}
 use Rattle.frames.proofs.has_states.Goals as goal
 
 pub returns : goal.returns

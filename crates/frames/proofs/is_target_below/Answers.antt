@@ -1,5 +1,4 @@
 -- `frames::is_target_below` meets its contract, case by case. Assumes nothing.
-use borrow.Author.Rules.{rules}
 use Rattle.model.specs.Controller.{is_target_below}
 use Rattle.frames.proofs.is_target_below.Goals as goal
 

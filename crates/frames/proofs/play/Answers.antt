@@ -1,5 +1,4 @@
 -- `frames::play` meets its contract: the step's player is the one that is shown. Assumes nothing.
-use borrow.Author.Rules.{rules}
 use Rattle.model.specs.declared.Player.{Player}
 use Rattle.model.specs.Controller.{now_at, elapsed}
 use Rattle.layout.proofs.Laws.{in_plan}

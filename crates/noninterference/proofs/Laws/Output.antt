@@ -4,21 +4,18 @@ use Rattle.std.proofs.Common.{arith, ◌∙◌}
 use Rattle.std.proofs.Math.Path.{refl, sym, ap, ap₂}
 use mathlib.Core.List.{List, [], ◌∷◌, map}
 use Rattle.model.specs.declared.Player.{Player}
-use Rattle.model.specs.declared.Outcome.{Outcome}
 use Rattle.model.specs.Rotations.{identity_matrix, floats}
 use Rattle.model.specs.declared.FrameKind.{FrameKind}
-use Rattle.model.specs.declared.LoopCount.{LoopCount}
-use Rattle.model.specs.Answers.{Verdict, accepted, refused, values, unless_refused}
+use Rattle.model.specs.Answers.{Verdict, accepted, refused, unless_refused}
 use Rattle.model.specs.Plan.{output_at}
 use Rattle.model.specs.Controller.{blank, fresh, frame_verdict}
 use Rattle.model.specs.Loops.{loops_verdict}
 use Rattle.model.specs.Skeleton.{written}
 use Rattle.model.specs.Run.{start_verdict, start_player, frame_matrices, Call, Loops, call_verdict, changed, after, chosen_floats, told, Observation, observation, run_from, run}
-use Rattle.model.specs.Promises.{Updated, SpeedSet, ParameterSet, Framed, LoopsCounted}
 use Rattle.model.proofs.Laws.Answers.{unless_same}
 use Rattle.model.proofs.Laws.Output.{matrix_at_lem, frame_length}
 use Rattle.noninterference.specs.Alike.{Closed}
-use Rattle.noninterference.specs.Trace.{Event, Trace, end, update, set_speed, set_parameter, frame, ask_loops, Session, calls, output_floats, observed, of_reachable, told_in}
+use Rattle.noninterference.specs.Trace.{Event, Trace, update, set_speed, set_parameter, frame, ask_loops, Session, calls, output_floats, observed, of_reachable, told_in}
 use Rattle.noninterference.proofs.Laws.Lists.{map_same}
 
 module _ (plan chosen : List ℕ) (numbers : List Float) (closed : Closed plan chosen) where

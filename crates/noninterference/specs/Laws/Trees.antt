@@ -1,5 +1,5 @@
 -- The part of demand 3's invariant about clip instances. Definitions only.
-use Rattle.std.specs.Prelude.{ℕ, suc, ◌/◌, ◌<◌, ◌≡◌, true, Float}
+use Rattle.std.specs.Prelude.{ℕ, ◌/◌, ◌<◌, ◌≡◌, true, Float}
 use mathlib.Core.List.{List}
 use Rattle.std.specs.Float.{nan}
 use Rattle.model.specs.Plan.{node_count, is_clip, clip_node_at}

@@ -1,5 +1,4 @@
 -- `output_pose::clip_pose` meets its contract: the identity without samples, else the pose between those on either side. Assumes nothing.
-use borrow.Author.Rules.{rules}
 use mathlib.Core.Path.{◌∙◌}
 use Rattle.blend_tree.specs.Sampling.{Sized}
 use Rattle.blend_tree.proofs.SamplingLaws.{clip_sized, sampled, identity_shown, between_shown}

@@ -1,5 +1,4 @@
 -- `output_pose::show` meets its contract: either case of the transition is the definition's, call by call. Assumes nothing.
-use borrow.Author.Rules.{rules}
 use Rattle.output_pose.specs.Shown.{shown_pose, TargetReady}
 use Rattle.output_pose.proofs.Laws.{target_below, shown_idle, shown_running}
 use Rattle.output_pose.proofs.show.Goals as goal

@@ -1,11 +1,7 @@
 -- `output_pose::show_blocks` meets its contract. Invariant: the output is the old one with the first joints' matrices written. Assumes nothing.
 use Prim.Native.Nat.{◌-◌}
-use native.Mathlib.Omega.{arith}
-use lib.ListN.{length}
-use Rattle.model.proofs.Laws.Passed.{few_joints}
-use Rattle.layout.proofs.Laws.{joints_found}
 use Rattle.output_pose.specs.Shown.{shown_pose}
-use Rattle.output_pose.proofs.Laws.{Through, through}
+use Rattle.output_pose.proofs.Laws.{Through}
 use Rattle.output_pose.proofs.show_blocks.Given as goal
 
 abbrev pub invariant-loop-first : goal.invariant-loop-first

@@ -1,5 +1,4 @@
 -- `output_pose::show_joint` meets its contract: the state's only node is a clip, and the joint's pose is the clip's. Assumes nothing.
-use borrow.Author.Rules.{rules}
 use native.Mathlib.Omega.{arith}
 use mathlib.Core.Path.{◌≡◌, sym, ◌∙◌}
 use Rattle.model.specs.Plan.{joint_count}

@@ -1,5 +1,4 @@
 -- `output_pose::show_transition` meets its contract: the state is shown by the instances from before, the target by those after. Assumes nothing.
-use borrow.Author.Rules.{rules}
 use Rattle.output_pose.proofs.Laws.{ready_towards, blended_to}
 use Rattle.output_pose.proofs.show_transition.Goals as goal
 

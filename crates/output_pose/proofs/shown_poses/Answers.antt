@@ -1,5 +1,4 @@
 -- `output_pose::shown_poses` meets its contract: the state's poses, and blended lane by lane with the other's where there is one. Assumes nothing.
-use borrow.Author.Rules.{rules}
 use Prim.Native.Nat.{◌+◌}
 use mathlib.Core.Path.{◌∙◌}
 use Rattle.output_pose.proofs.Laws.{blended, pose_alone, pose_towards, target_known}

@@ -1,5 +1,4 @@
 -- `output_pose::synchronize_target` meets its contract: the target's layout is the plan's. Assumes nothing.
-use borrow.Author.Rules.{rules}
 use mathlib.Core.Path.{refl}
 use Rattle.layout.proofs.Laws.{same_state, in_plan}
 use Rattle.output_pose.specs.Shown.{TargetReady}

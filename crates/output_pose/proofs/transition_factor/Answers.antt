@@ -1,5 +1,4 @@
 -- `output_pose::transition_factor` meets its contract: widening changes no value. Assumes nothing.
-use borrow.Author.Rules.{rules}
 use Rattle.model.specs.Controller.{transition_factor}
 use Rattle.output_pose.proofs.transition_factor.Goals as goal
 

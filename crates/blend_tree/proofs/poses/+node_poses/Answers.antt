@@ -1,9 +1,8 @@
 -- `blend_tree::poses::node_poses` meets its contract, by recursion on the node: the check has seen that a clip node's clip and instance are there, and
 -- that another node's inputs come before it and its parameter is there. Assumes nothing.
-use Prim.Native.Nat.{ℕ, ◌+◌, ◌≤◌, ◌<◌}
+use Prim.Native.Nat.{ℕ, ◌+◌}
 use native.Mathlib.Omega.{arith}
 use mathlib.Core.Path.{ap, ◌∙◌}
-use Rattle.model.specs.Plan.{max_parameters, max_nodes, max_clip_nodes}
 use Rattle.model.specs.Clips.{instance_at}
 use Rattle.layout.proofs.NodeLaws.{node_small, NodeRead, is_clip_lem, no_clip, clip_inside, inputs_before, parameter_small}
 use Rattle.blend_tree.proofs.NodeLaws.{passes, slot_found, slot_small}

@@ -1,6 +1,5 @@
 -- `blend_tree::poses::clip_poses` meets its contract: the identity in each lane where the clip has no samples, else the poses between two of them. Assumes
 -- nothing.
-use borrow.Author.Rules.{rules}
 use mathlib.Core.Path.{◌∙◌}
 use Rattle.blend_tree.specs.Sampling.{Sized}
 use Rattle.blend_tree.proofs.SamplingLaws.{clip_sized, sampled, identity_shown, between_shown}

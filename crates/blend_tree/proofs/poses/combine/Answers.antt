@@ -1,5 +1,4 @@
 -- `blend_tree::poses::combine` meets its contract: it is the definition. Assumes nothing.
-use borrow.Author.Rules.{rules}
 use Rattle.model.specs.Tree.{additive}
 use Rattle.blend_tree.proofs.poses.combine.Goals as goal
 

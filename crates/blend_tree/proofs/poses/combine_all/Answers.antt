@@ -1,10 +1,8 @@
 -- `blend_tree::poses::combine_all` meets its contract. Invariant: the lanes below i are combined, the others as at the loop's entry. Assumes nothing.
 use borrow.Author.Rules.{rules}
-use Prim.Native.Nat.{◌-◌, ◌≤◌}
 use native.Mathlib.Omega.{arith}
 use mathlib.Core.Path.{◌∙◌}
-use Rattle.blend_tree.specs.Blocks.{combined}
-use Rattle.blend_tree.proofs.PoseLaws.{Combined, combined_none, combined_more}
+use Rattle.blend_tree.proofs.PoseLaws.{combined_none, combined_more}
 use Rattle.blend_tree.proofs.poses.combine_all.Goals as goal
 
 pub loop-i-preserved : goal.loop-i-preserved

@@ -1,10 +1,7 @@
 -- `blend_tree::poses::combine_all` meets its contract. Invariant: the lanes below i are combined, the others as at the loop's entry. Assumes nothing.
-use borrow.Author.Rules.{rules}
 use Prim.Native.Nat.{◌-◌, ◌≤◌}
-use native.Mathlib.Omega.{arith}
-use mathlib.Core.Path.{◌∙◌}
 use Rattle.blend_tree.specs.Blocks.{combined}
-use Rattle.blend_tree.proofs.PoseLaws.{Combined, combined_none, combined_more}
+use Rattle.blend_tree.proofs.PoseLaws.{Combined}
 use Rattle.blend_tree.proofs.poses.combine_all.Given as goal
 
 abbrev pub invariant-loop-i : goal.invariant-loop-i

@@ -1,11 +1,8 @@
 -- `blend_tree::poses::identity_poses` meets its contract. Invariant: the lanes below i hold the identity pose. Assumes nothing.
-use borrow.Author.Rules.{rules}
-use Prim.Native.Nat.{◌-◌, ◌≤◌}
 use native.Mathlib.Omega.{arith}
 use mathlib.Core.Path.{◌≡◌}
 use Rattle.model.specs.Pose.{identity_pose}
 use Rattle.lanes.proofs.Laws.{done_more}
-use Rattle.blend_tree.specs.Blocks.{Filled}
 use Rattle.blend_tree.proofs.poses.identity_poses.Goals as goal
 
 pub loop-i-preserved : goal.loop-i-preserved

@@ -1,14 +1,8 @@
 -- `blend_tree::poses::sampled_poses` meets its contract. Invariant: the lanes below i hold their poses. Assumes nothing.
 use Prim.Native.Nat.{◌+◌, ◌*◌, ◌-◌, ◌≤◌}
-use native.Mathlib.Omega.{arith}
-use mathlib.Core.Path.{◌≡◌, ◌∙◌}
-use lib.ListN.{length}
 use Rattle.model.specs.Pose.{lerp}
 use Rattle.animation.specs.Sampling.{pose_from}
-use Rattle.lanes.proofs.Laws.{done_more}
-use Rattle.blend_tree.specs.Sampling.{pose_between}
 use Rattle.blend_tree.specs.Blocks.{Filled}
-use Rattle.blend_tree.proofs.SamplingLaws.{samples_small, row_start, row_inside}
 use Rattle.blend_tree.proofs.poses.sampled_poses.Given as goal
 
 abbrev pub invariant-loop-i : goal.invariant-loop-i

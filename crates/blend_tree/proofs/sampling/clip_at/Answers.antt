@@ -1,5 +1,4 @@
 -- `blend_tree::sampling::clip_at` meets its contract: it is the definition. Assumes nothing.
-use borrow.Author.Rules.{rules}
 use native.Mathlib.Omega.{arith}
 use lib.ListN.{length}
 use Rattle.model.proofs.Laws.Passed.{few_joints, sample_count_there}

@@ -1,5 +1,4 @@
 -- `blend_tree::sampling::clip_position` meets its contract: it is the definition. Assumes nothing.
-use borrow.Author.Rules.{rules}
 use Rattle.blend_tree.proofs.sampling.clip_position.Goals as goal
 
 pub returns : goal.returns

@@ -1,5 +1,4 @@
 -- `blend_tree::sampling::clip_samples` meets its contract: those of the clip, after those of the clips before it. Assumes nothing.
-use borrow.Author.Rules.{rules}
 use native.Mathlib.Omega.{arith}
 use Rattle.animation.specs.Sampling.{position_in}
 use Rattle.blend_tree.specs.Sampling.{samples_at}

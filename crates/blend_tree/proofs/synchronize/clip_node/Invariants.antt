@@ -1,12 +1,7 @@
 -- `blend_tree::synchronize::clip_node` meets its contract. Invariant: `next` is the clip node that comes at k. Assumes nothing.
 use Prim.Native.Nat.{◌-◌, ◌≤◌}
-use mathlib.Core.Path.{◌≡◌, ◌∙◌}
-use native.Mathlib.Numerals.{add-one}
-use native.Mathlib.Omega.{arith}
+use mathlib.Core.Path.{◌≡◌}
 use Rattle.model.specs.Plan.{clip_node_at}
-use Rattle.model.proofs.Laws.ClipNodes.{first_clip_node}
-use Rattle.layout.proofs.Laws.{clips_counted}
-use Rattle.blend_tree.proofs.SynchronizeLaws.{few_next}
 use Rattle.blend_tree.proofs.synchronize.clip_node.Given as goal
 
 abbrev pub invariant-loop-k : goal.invariant-loop-k

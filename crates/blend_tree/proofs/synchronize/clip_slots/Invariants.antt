@@ -1,15 +1,8 @@
 -- `blend_tree::synchronize::clip_slots` meets its contract. Invariant: the slots below i are filled, and `next` is the clip node that comes at i. Assumes nothing.
-use borrow.Author.Rules.{rules}
-use borrow.Author.Count.{below_none}
 use Prim.Native.Nat.{ℕ, suc, ◌-◌, ◌≤◌, ◌<◌}
-use mathlib.Core.Path.{◌≡◌, ◌∙◌}
-use native.Mathlib.Numerals.{add-one}
-use native.Mathlib.Omega.{arith}
-use lib.ListN.{length, get_or, length-set}
-use Rattle.model.specs.Plan.{max_nodes, max_clip_nodes, clip_node_at}
-use Rattle.model.proofs.Laws.ClipNodes.{first_clip_node}
-use Rattle.layout.proofs.Laws.{nodes_counted, clips_counted, nodes_few}
-use Rattle.blend_tree.proofs.SynchronizeLaws.{filled_more, few_next}
+use mathlib.Core.Path.{◌≡◌}
+use lib.ListN.{length, get_or}
+use Rattle.model.specs.Plan.{max_nodes, clip_node_at}
 use Rattle.blend_tree.proofs.synchronize.clip_slots.Given as goal
 
 abbrev pub invariant-loop-i : goal.invariant-loop-i

@@ -1,6 +1,4 @@
 -- `blend_tree::synchronize::is_touched` meets its contract: test by test. The inputs of a node that is no clip are nodes. Assumes nothing.
-use borrow.Author.Rules.{rules}
-use borrow.Author.Tests.{not-true, not-false}
 use Prim.Native.Nat.{◌<◌}
 use native.Mathlib.Omega.{arith}
 use mathlib.Core.Path.{◌≡◌, sym, ◌∙◌}

@@ -1,5 +1,4 @@
 -- `blend_tree::synchronize::next_clip_node` meets its contract: the node counts where its kind is a clip's. Assumes nothing.
-use borrow.Author.Rules.{rules}
 use mathlib.Core.Path.{◌∙◌, ap}
 use Prim.Native.Nat.{◌+◌}
 use native.Mathlib.Omega.{arith}

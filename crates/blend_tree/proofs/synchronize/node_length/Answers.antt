@@ -1,5 +1,4 @@
 -- `blend_tree::synchronize::node_length` meets its contract: a clip node names a clip that the plan has. Assumes nothing.
-use borrow.Author.Rules.{rules}
 use Rattle.model.specs.Clips.{duration}
 use Rattle.model.specs.Tree.{node_length}
 use Rattle.layout.specs.Layout.{node_of}

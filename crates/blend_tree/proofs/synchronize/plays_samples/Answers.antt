@@ -1,5 +1,4 @@
 -- `blend_tree::synchronize::plays_samples` meets its contract: a clip node names a clip that the plan has. Assumes nothing.
-use borrow.Author.Rules.{rules}
 use mathlib.Core.Path.{sym}
 use Rattle.layout.proofs.NodeLaws.{is_clip_lem, clip_inside}
 use Rattle.blend_tree.proofs.SynchronizeLaws.{plays_nothing, plays_told}

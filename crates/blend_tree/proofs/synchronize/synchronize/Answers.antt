@@ -1,5 +1,4 @@
 -- `blend_tree::synchronize::synchronize` meets its contract. Invariant: the first i nodes are synchronised. Assumes nothing.
-use Prim.Native.Nat.{◌-◌, ◌≤◌}
 use mathlib.Core.Path.{◌≡◌, refl, ◌∙◌}
 use native.Mathlib.Numerals.{add-one}
 use native.Mathlib.Omega.{arith}

@@ -1,11 +1,7 @@
 -- `blend_tree::synchronize::synchronize` meets its contract. Invariant: the first i nodes are synchronised. Assumes nothing.
 use Prim.Native.Nat.{◌-◌, ◌≤◌}
-use mathlib.Core.Path.{◌≡◌, refl, ◌∙◌}
-use native.Mathlib.Numerals.{add-one}
-use native.Mathlib.Omega.{arith}
-use Rattle.model.specs.Plan.{node_count}
-use Rattle.model.specs.Tree.{synchronize_nodes, synchronize}
-use Rattle.layout.proofs.Laws.{nodes_counted}
+use mathlib.Core.Path.{◌≡◌}
+use Rattle.model.specs.Tree.{synchronize_nodes}
 use Rattle.blend_tree.proofs.synchronize.synchronize.Given as goal
 
 abbrev pub invariant-loop-i : goal.invariant-loop-i

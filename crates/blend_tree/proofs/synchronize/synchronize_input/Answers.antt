@@ -1,5 +1,4 @@
 -- `blend_tree::synchronize::synchronize_input` meets its contract: it is the definition. Assumes nothing.
-use borrow.Author.Rules.{rules}
 use Rattle.model.specs.Tree.{synchronized_rate}
 use Rattle.blend_tree.proofs.synchronize.synchronize_input.Goals as goal
 

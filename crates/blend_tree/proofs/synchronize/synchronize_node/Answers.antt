@@ -1,6 +1,4 @@
 -- `blend_tree::synchronize::synchronize_node` meets its contract: the inputs of a node that is touched are clip nodes of the state. Assumes nothing.
-use borrow.Author.Rules.{rules}
-use borrow.Author.Tests.{not-true, not-false}
 use Prim.Native.Nat.{◌<◌}
 use mathlib.Core.Path.{◌≡◌, sym, ◌∙◌}
 use mathlib.Core.Bool.{true}
