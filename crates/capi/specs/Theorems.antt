@@ -14,7 +14,7 @@ use Rattle.host_player.specs.HostPlayer.{host_text_answer}
 use Rattle.host_player.specs.HostPromises.{HostTextRead}
 use Rattle.capi.specs.PlayerSize.{player_bytes, field_place, uses_bytes, uses_place, loops_bytes, loops_place}
 
-module _ (text : List ℕ) (w n : ℕ) (words-room : max_plan ≤ w) (numbers-room : length text / number_bytes ≤ n) where
+module _ (text : List ℕ) (w n : ℕ) (words_room : max_plan ≤ w) (numbers_room : length text / number_bytes ≤ n) where
   never_short : (x : Reading) → read_figure text ≡ x → (host_text_answer (text_verdict x w n)).number ≡ 12 → ⊥
   unfolding text_verdict host_text_answer
   never_short (bad m) t e = omega (arith, e)
