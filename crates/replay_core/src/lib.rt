@@ -32,7 +32,7 @@ use report::{
 pub const MAX_REPORT: usize = REFUSAL_SIZE + PLAYER_SIZE + MAX_PRINTED + TOLD_SIZE;
 
 // A call's outcome, how many joints' matrices it left in the floats, and what it is told.
-#[derive(Drop)]
+#[derive(Clone, Copy)]
 pub struct CallDone {
     pub answer: Answer,
     pub player: Player,

@@ -36,7 +36,7 @@ pub const PLAYER_SIZE: usize = 6 + 2 * WIDE_SIZE + DECIMAL_SIZE + TRANSITION_SIZ
 pub const TOLD_SIZE: usize = 5 + 2 * DECIMAL_SIZE + 1;
 
 // What an accepted call is told besides.
-#[derive(Drop)]
+#[derive(Clone, Copy)]
 pub enum Told {
     Nothing,
     Loops { loops: usize, rest: usize },
