@@ -3,7 +3,7 @@
 ghost use Rattle.std.specs.Prelude.{◌≡◌, [], ◌∷◌, ◌+◌, ◌<◌, ◌≤◌, ◌^◌};
 ghost use Rattle.std.proofs.lemmas.List.Edits.{sets};
 ghost use Rattle.model.specs.Text.{max_word, forms, read_line, times, floats_of};
-ghost use Rattle.model.proofs.Laws.Text.{Bounded};
+ghost use Rattle.model.specs.Laws.Text.{Bounded};
 ghost use Rattle.text.specs.LineFound.{max_fields};
 ghost use Rattle.text.specs.Steps.{InText, with_word, with_number, behind_line, Room};
 ghost use Rattle.text.specs.Steps.{ValuesPut, LineValues, valued, ReadBy};
