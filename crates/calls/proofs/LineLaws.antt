@@ -123,13 +123,13 @@ module _ (text : List ℕ) where
   there_and_back (Frame kind ext n) end inside nowhere = ap (placed (Frame kind ext n)) (omega (arith, length-drop end text))
   there_and_back (Loops s n t) end inside nowhere = ap (placed (Loops s n t)) (omega (arith, length-drop end text))
 
-  -- the line at a place, as a call and by what it says
+  -- the line at a place, as a call and by what it says: what `call_at` promises of its result
   abbrev pub There : ℕ → CallAt → Type 0
-  There at r = (r ≡ call_at text at) × (line_read text r ≡ call_in (drop at text))
+  There at r = record { value : r ≡ call_at text at; result_value : line_read text r ≡ call_in (drop at text) }
 
   call_there : (at : ℕ) {r : CallAt} → CallRead text (call_in (drop at text)) r → There at r
   unfolding line_read
-  call_there at {r} c = (there_and_back r.call r.end c.inside c.nowhere ∙ ap (call_placed text) c.reading, c.reading)
+  call_there at {r} c = record { value = there_and_back r.call r.end c.inside c.nowhere ∙ ap (call_placed text) c.reading; result_value = c.reading }
 
 -- a line l whose next field was read to f, with `more` behind it
 module _ (text : List ℕ) {f : Field} {s : Text.Field} (more : ℕ → List ℕ → CallLine) {l : CallLine} (is : behind_field s more ≡ l) (read : found text f ≡ s) where

@@ -1,29 +1,31 @@
 -- The bytes of a host's player, and of the answers about what a figure can use and about loops, by the memory that every proof here speaks of: each field begins at the next multiple
 -- of its alignment, and the whole is a multiple of the largest. The types are written out, since a clause may not cite what Rattle makes of a struct; that they are the structs' own is
 -- `player_is`, `uses_is` and `loops_is` in proofs/OwnTypes.antt. Definitions only.
-use Rattle.std.specs.Prelude.{ℕ, List, [], ◌∷◌}
+use Rattle.std.specs.Prelude.{ℕ, ◌*◌}
 use Rattle.std.specs.Float.{binary32, binary64}
 use Rattle.std.proofs.Math.Option.{Option, none, some}
 use mir.Syntax.{Ty, Tys, ty_int, ty_bool, ty_float, ty_array, ty_struct, tnil, tcons, w64}
 use prog.Memory.{size, field_of}
+use Rattle.model.specs.Plan.{max_parameters, max_clip_nodes, max_states, max_clips}
+use Rattle.model.specs.BenchText.{bytes}
 
--- `host_player::HostPlayer`: clock, speed, state, running, start, target, duration, parameters, instances
+-- `host_player::HostPlayer`: clock, speed, state, running, start, target, duration, parameters, and an instance's three floats for each clip node
 abbrev pub player : Ty
 player =
-    ty_struct (104 ∷ 111 ∷ 115 ∷ 116 ∷ 95 ∷ 112 ∷ 108 ∷ 97 ∷ 121 ∷ 101 ∷ 114 ∷ 58 ∷ 58 ∷ 72 ∷ 111 ∷ 115 ∷ 116 ∷ 80 ∷ 108 ∷ 97 ∷ 121 ∷ 101 ∷ 114 ∷ [])
+    ty_struct (bytes "host_player::HostPlayer")
     (tcons (ty_float binary64) (tcons (ty_float binary64) (tcons (ty_int w64) (tcons (ty_int w64) (tcons (ty_float binary64) (tcons (ty_int w64)
-    (tcons (ty_float binary32) (tcons (ty_array (ty_float binary32) 32) (tcons (ty_array (ty_float binary32) 192) tnil)))))))))
+    (tcons (ty_float binary32) (tcons (ty_array (ty_float binary32) max_parameters) (tcons (ty_array (ty_float binary32) (3 * max_clip_nodes)) tnil)))))))))
 
 -- `host_uses::HostUses`: number, place, the marks of states, parameters and clips
 abbrev pub uses : Ty
 uses =
-    ty_struct (104 ∷ 111 ∷ 115 ∷ 116 ∷ 95 ∷ 117 ∷ 115 ∷ 101 ∷ 115 ∷ 58 ∷ 58 ∷ 72 ∷ 111 ∷ 115 ∷ 116 ∷ 85 ∷ 115 ∷ 101 ∷ 115 ∷ [])
-    (tcons (ty_int w64) (tcons (ty_int w64) (tcons (ty_array ty_bool 16) (tcons (ty_array ty_bool 32) (tcons (ty_array ty_bool 16) tnil)))))
+    ty_struct (bytes "host_uses::HostUses")
+    (tcons (ty_int w64) (tcons (ty_int w64) (tcons (ty_array ty_bool max_states) (tcons (ty_array ty_bool max_parameters) (tcons (ty_array ty_bool max_clips) tnil)))))
 
 -- `host_loops::HostLoops`: number, place, loops, rest
 abbrev pub loops : Ty
 loops =
-    ty_struct (104 ∷ 111 ∷ 115 ∷ 116 ∷ 95 ∷ 108 ∷ 111 ∷ 111 ∷ 112 ∷ 115 ∷ 58 ∷ 58 ∷ 72 ∷ 111 ∷ 115 ∷ 116 ∷ 76 ∷ 111 ∷ 111 ∷ 112 ∷ 115 ∷ [])
+    ty_struct (bytes "host_loops::HostLoops")
     (tcons (ty_int w64) (tcons (ty_int w64) (tcons (ty_int w64) (tcons (ty_int w64) tnil))))
 
 abbrev pub player_bytes : ℕ

@@ -24,53 +24,56 @@ name_at-page-requires c = positive_at page_name tt
 pub name_at-loops-requires : goal.name_at-loops-requires
 name_at-loops-requires c = positive_at loops_name tt
 
--- the line is of none of the first kinds
-past-update : (c : Else-update-gt0) → Among c.args.text.now c.args.at (drop 1 kinds)
-past-update c = of_another (of_any _ _) c.name_at-update.ensures.value (omega arith) c.if-update-gt0.false
+-- past a kind's name the line is of none of the kinds up to it, where it is of none of those before
+past-update : (c : Else-update-gt0) → Among c.args.text.now c.args.at (drop 0 kinds) → Among c.args.text.now c.args.at (drop 1 kinds)
+past-update c before = of_another before c.name_at-update.ensures.value (omega arith) c.if-update-gt0.false
 
-past-speed : (c : Else-speed-gt0) → Among c.args.text.now c.args.at (drop 2 kinds)
-past-speed c = of_another (of_another (of_any _ _) c.name_at-update.ensures.value (omega arith) c.if-update-gt0.false) c.name_at-speed.ensures.value (omega arith) c.if-speed-gt0.false
+past-speed : (c : Else-speed-gt0) → Among c.args.text.now c.args.at (drop 1 kinds) → Among c.args.text.now c.args.at (drop 2 kinds)
+past-speed c before = of_another before c.name_at-speed.ensures.value (omega arith) c.if-speed-gt0.false
 
-past-set : (c : Else-set-gt0) → Among c.args.text.now c.args.at (drop 3 kinds)
-past-set c = of_another (of_another (of_another (of_any _ _) c.name_at-update.ensures.value (omega arith) c.if-update-gt0.false) c.name_at-speed.ensures.value (omega arith) c.if-speed-gt0.false) c.name_at-set.ensures.value (omega arith) c.if-set-gt0.false
+past-set : (c : Else-set-gt0) → Among c.args.text.now c.args.at (drop 2 kinds) → Among c.args.text.now c.args.at (drop 3 kinds)
+past-set c before = of_another before c.name_at-set.ensures.value (omega arith) c.if-set-gt0.false
 
-past-frame : (c : Else-frame-gt0) → Among c.args.text.now c.args.at (drop 4 kinds)
-past-frame c = of_another (of_another (of_another (of_another (of_any _ _) c.name_at-update.ensures.value (omega arith) c.if-update-gt0.false) c.name_at-speed.ensures.value (omega arith) c.if-speed-gt0.false) c.name_at-set.ensures.value (omega arith) c.if-set-gt0.false) c.name_at-frame.ensures.value (omega arith) c.if-frame-gt0.false
+past-frame : (c : Else-frame-gt0) → Among c.args.text.now c.args.at (drop 3 kinds) → Among c.args.text.now c.args.at (drop 4 kinds)
+past-frame c before = of_another before c.name_at-frame.ensures.value (omega arith) c.if-frame-gt0.false
 
-past-page : (c : Else-page-gt0) → Among c.args.text.now c.args.at (drop 5 kinds)
-past-page c = of_another (of_another (of_another (of_another (of_another (of_any _ _) c.name_at-update.ensures.value (omega arith) c.if-update-gt0.false) c.name_at-speed.ensures.value (omega arith) c.if-speed-gt0.false) c.name_at-set.ensures.value (omega arith) c.if-set-gt0.false) c.name_at-frame.ensures.value (omega arith) c.if-frame-gt0.false) c.name_at-page.ensures.value (omega arith) c.if-page-gt0.false
+past-page : (c : Else-page-gt0) → Among c.args.text.now c.args.at (drop 4 kinds) → Among c.args.text.now c.args.at (drop 5 kinds)
+past-page c before = of_another before c.name_at-page.ensures.value (omega arith) c.if-page-gt0.false
 
 pub returns-then-update-gt0 : goal.returns-then-update-gt0
-returns-then-update-gt0 c =
-    let t = of_this (of_any _ _) c.name_at-update.ensures.value c.if-update-gt0.true c.time_line.ensures in
-    record { value = t.0; result_value = t.1 }
+returns-then-update-gt0 c = of_this (of_any _ _) c.name_at-update.ensures.value c.if-update-gt0.true c.time_line.ensures
 
 pub returns-then-speed-gt0 : goal.returns-then-speed-gt0
 returns-then-speed-gt0 c =
-    let t = of_this (past-update (goal.at.returns-then-speed-gt0 c).Else-update-gt0) c.name_at-speed.ensures.value c.if-speed-gt0.true c.time_line-then-speed-gt0.ensures in
-    record { value = t.0; result_value = t.1 }
+    let p = goal.at.returns-then-speed-gt0 c in
+    of_this (past-update p.Else-update-gt0 (of_any _ _))
+    c.name_at-speed.ensures.value c.if-speed-gt0.true c.time_line-then-speed-gt0.ensures
 
 pub returns-then-set-gt0 : goal.returns-then-set-gt0
 returns-then-set-gt0 c =
-    let t = of_this (past-speed (goal.at.returns-then-set-gt0 c).Else-speed-gt0) c.name_at-set.ensures.value c.if-set-gt0.true c.set_line.ensures in
-    record { value = t.0; result_value = t.1 }
+    let p = goal.at.returns-then-set-gt0 c in
+    of_this (past-speed p.Else-speed-gt0 (past-update p.Else-update-gt0 (of_any _ _)))
+    c.name_at-set.ensures.value c.if-set-gt0.true c.set_line.ensures
 
 pub returns-then-frame-gt0 : goal.returns-then-frame-gt0
 returns-then-frame-gt0 c =
-    let t = of_this (past-set (goal.at.returns-then-frame-gt0 c).Else-set-gt0) c.name_at-frame.ensures.value c.if-frame-gt0.true c.frame_line.ensures in
-    record { value = t.0; result_value = t.1 }
+    let p = goal.at.returns-then-frame-gt0 c in
+    of_this (past-set p.Else-set-gt0 (past-speed p.Else-speed-gt0 (past-update p.Else-update-gt0 (of_any _ _))))
+    c.name_at-frame.ensures.value c.if-frame-gt0.true c.frame_line.ensures
 
 pub returns-then-page-gt0 : goal.returns-then-page-gt0
 returns-then-page-gt0 c =
-    let t = of_this (past-frame (goal.at.returns-then-page-gt0 c).Else-frame-gt0) c.name_at-page.ensures.value c.if-page-gt0.true c.frame_line-then-page-gt0.ensures in
-    record { value = t.0; result_value = t.1 }
+    let p = goal.at.returns-then-page-gt0 c in
+    of_this (past-frame p.Else-frame-gt0 (past-set p.Else-set-gt0 (past-speed p.Else-speed-gt0 (past-update p.Else-update-gt0 (of_any _ _)))))
+    c.name_at-page.ensures.value c.if-page-gt0.true c.frame_line-then-page-gt0.ensures
 
 pub returns-then-loops-gt0 : goal.returns-then-loops-gt0
 returns-then-loops-gt0 c =
-    let t = of_this (past-page (goal.at.returns-then-loops-gt0 c).Else-page-gt0) c.name_at-loops.ensures.value c.if-loops-gt0.true c.loops_line.ensures in
-    record { value = t.0; result_value = t.1 }
+    let p = goal.at.returns-then-loops-gt0 c in
+    of_this (past-page p.Else-page-gt0 (past-frame p.Else-frame-gt0 (past-set p.Else-set-gt0 (past-speed p.Else-speed-gt0 (past-update p.Else-update-gt0 (of_any _ _))))))
+    c.name_at-loops.ensures.value c.if-loops-gt0.true c.loops_line.ensures
 
 pub returns : goal.returns
 returns c =
-    let t = of_none (of_another (past-page (goal.at.returns c).Else-page-gt0) c.name_at-loops.ensures.value (omega arith) c.if-loops-gt0.false) c.malformed.ensures in
-    record { value = t.0; result_value = t.1 }
+    let p = goal.at.returns c in
+    of_none (of_another (past-page p.Else-page-gt0 (past-frame p.Else-frame-gt0 (past-set p.Else-set-gt0 (past-speed p.Else-speed-gt0 (past-update p.Else-update-gt0 (of_any _ _)))))) c.name_at-loops.ensures.value (omega arith) c.if-loops-gt0.false) c.malformed.ensures
