@@ -1,4 +1,3 @@
-pub mod Tags
 -- what follows from the definitions
 pub mod Laws
 pub mod Bench

@@ -1,17 +1,38 @@
 -- Document 01, what an answer is, and how the first refusal is found. Definitions only.
-use Rattle.std.specs.Prelude.{ℕ, zero, suc, Bool, cond}
-use Rattle.model.specs.declared.Answer.{Answer}
-use Rattle.model.specs.declared.Answer.TheVariants.{Accepted, Refused}
+use Rattle.std.specs.Prelude.{ℕ, zero, suc, Bool, cond, Result, Ok, Err}
+use Rattle.model.specs.declared.Reason.{Reason}
+use Rattle.model.specs.declared.Reason.TheVariants as reason
+use Rattle.model.specs.declared.Refusal.{Refusal}
 
 -- 'answer'
 pub data Verdict : Type 0 where
   accepted : Verdict
   refused : (number place rest : ℕ) → Verdict
 
--- what the cases of the program's enum stand for in document 01. Start, set and frames carry nothing beside, so their rest is 0
-unfoldable pub values : Answer → Verdict
-values Accepted = accepted
-values (Refused r) = refused r.number r.place 0
+-- the number that document 01 and the cards give to each of the program's reasons
+abbrev pub number_of : Reason → ℕ
+number_of reason.PlanEnded = 1
+number_of reason.Count = 2
+number_of reason.Parent = 3
+number_of reason.Node = 4
+number_of reason.Transition = 5
+number_of reason.WordsLeft = 6
+number_of reason.NumberCount = 7
+number_of reason.Parameter = 8
+number_of reason.State = 9
+number_of reason.Output = 10
+number_of reason.Line = 11
+number_of reason.Room = 12
+number_of reason.TextLength = 13
+number_of reason.Ending = 14
+number_of reason.ClipNode = 16
+number_of reason.NotLooping = 17
+
+-- what the program's answers stand for in document 01, whatever an acceptance hands back. A refusal carries nothing beside its number and place, so
+-- its rest is 0
+unfoldable pub values : {A : Type 0} → Result A Refusal → Verdict
+values (Ok x) = accepted
+values (Err r) = refused (number_of r.reason) r.place 0
 
 -- ---- the first refusal
 

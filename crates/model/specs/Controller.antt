@@ -1,10 +1,8 @@
 -- Document 01, "Controller (controller.rs)", but for step 3. Definitions only.
-use Rattle.std.specs.Prelude.{ℕ, zero, suc, Bool, true, cond, ◌&&◌, List, set, length, replicate, leb, ltb, eqb, Float}
+use Rattle.std.specs.Prelude.{ℕ, zero, suc, Bool, true, cond, ◌&&◌, List, set, length, replicate, leb, ltb, eqb, Float, Option, Some, None}
 use Rattle.std.specs.Float.Ieee.{lt, le, eq, ne}
 use Rattle.model.specs.declared.Transition.{Transition}
 use Rattle.model.specs.declared.Transition.TheVariants.{Idle, Running}
-use Rattle.model.specs.declared.Winner.{Winner}
-use Rattle.model.specs.declared.Winner.TheVariants.{At, Nothing}
 use Rattle.model.specs.declared.Player.{Player}
 use Rattle.model.specs.declared.Pose.{Pose}
 use Rattle.model.specs.Numbers.{◌+₆₄◌, ◌-₆₄◌, ◌*₆₄◌, ◌/₆₄◌, 0f, 1f, narrow}
@@ -111,18 +109,18 @@ module _ (plan : List ℕ) (numbers : List Float) where
   begun now s t = Running now (target_state plan s t) (number plan numbers (Duration s t))
 
   -- 'the first listed transition whose condition holds' among transition t and those after it, n in all
-  unfoldable pub first_passing : List Float → ℕ → ℕ → ℕ → Winner
-  first_passing parameters s t zero = Nothing
-  first_passing parameters s t (suc n) = cond (condition_holds parameters s t) (At t) (first_passing parameters s (suc t) n)
+  unfoldable pub first_passing : List Float → ℕ → ℕ → ℕ → Option ℕ
+  first_passing parameters s t zero = None
+  first_passing parameters s t (suc n) = cond (condition_holds parameters s t) (Some t) (first_passing parameters s (suc t) n)
 
   -- among all of state s
-  unfoldable pub winner : List Float → ℕ → Winner
+  unfoldable pub winner : List Float → ℕ → Option ℕ
   winner parameters s = first_passing parameters s 0 (transition_count plan s)
 
   -- the transition that a winner starts
-  unfoldable pub started_by : Float → ℕ → Winner → Transition
-  started_by now s Nothing = Idle
-  started_by now s (At t) = begun now s t
+  unfoldable pub started_by : Float → ℕ → Option ℕ → Transition
+  started_by now s None = Idle
+  started_by now s (Some t) = begun now s t
 
   -- step 1, by the transition that the player had before it: either looks for an end or for a start, never both
   unfoldable pub step_from : Float → Player → Transition → Player

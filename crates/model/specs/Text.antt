@@ -1,14 +1,15 @@
 -- Document 01, "Page matrices, text, program": the lines of a text, and what reading them gives. Definitions only.
 -- A text is a list of bytes. Each definition takes the text from some byte on and says what stands there and what is left behind it.
-use Rattle.std.specs.Prelude.{ℕ, zero, suc, ◌+◌, ◌-◌, ◌*◌, Bool, true, cond, not, ◌&&◌, ◌||◌, List, [], ◌∷◌, ◌++◌, map, length, get_or, drop, leb, ltb, eqb, Float}
+use Rattle.std.specs.Prelude.{ℕ, zero, suc, ◌+◌, ◌-◌, ◌*◌, Bool, true, cond, not, ◌&&◌, ◌||◌, List, [], ◌∷◌, ◌++◌, map, length, get_or, drop, leb, ltb, eqb, Float, Result, Ok, Err}
 use Rattle.std.specs.Float.{binary32}
 use Rattle.std.specs.Float.Ieee.{of_bits}
 use Rattle.model.specs.declared.LineKind.{LineKind}
 use Rattle.model.specs.declared.LineKind.TheVariants.{Figure, Joint, Clip, State, Node, Go, Pose}
 use Rattle.model.specs.declared.FieldForm.{FieldForm}
 use Rattle.model.specs.declared.FieldForm.TheVariants.{Decimal, Bits}
-use Rattle.model.specs.declared.TextAnswer.{TextAnswer}
-use Rattle.model.specs.declared.TextAnswer.TheVariants.{Accepted, Refused}
+use Rattle.model.specs.declared.Lengths.{Lengths}
+use Rattle.model.specs.declared.Refusal.{Refusal}
+use Rattle.model.specs.Answers.{number_of}
 use Rattle.model.specs.Plan.{max_joints, max_clips, max_parameters, max_states, max_samples, max_nodes, max_transitions, clip_words, joint_count, clip_count, state_count, total}
 use Rattle.model.specs.Check.{within}
 
@@ -194,10 +195,10 @@ pub data TextVerdict : Type 0 where
   accepted : (words numbers : ℕ) → TextVerdict
   refused : (number place rest : ℕ) → TextVerdict
 
--- what the cases of the program's enum stand for
-unfoldable pub text_values : TextAnswer → TextVerdict
-text_values (Accepted words numbers) = accepted words numbers
-text_values (Refused r) = refused r.number r.place 0
+-- what the program's answers stand for
+unfoldable pub text_values : Result Lengths Refusal → TextVerdict
+text_values (Ok l) = accepted l.words l.numbers
+text_values (Err r) = refused (number_of r.reason) r.place 0
 
 -- 11, then 12
 unfoldable pub text_verdict : Reading → ℕ → ℕ → TextVerdict

@@ -2,7 +2,7 @@
 #![tactic(auto)]
 
 ghost use Rattle.std.specs.Prelude.{◌≡◌};
-ghost use Rattle.model.specs.Answers.{values, refused};
+ghost use Rattle.model.specs.Answers.{number_of};
 
 use crate::limits::{MAX_CLIPS, MAX_INSTANCES, MAX_PARAMETERS, MAX_STATES};
 
@@ -91,13 +91,6 @@ pub enum Narrowed {
     Zero,
 }
 
-// Which of a state's transitions wins, by its number.
-#[derive(Clone, Copy)]
-pub enum Winner {
-    At(usize),
-    Nothing,
-}
-
 // Of a frame: what each joint's own matrix is, before its parent's is multiplied on.
 #[derive(Clone, Copy)]
 pub enum FrameKind {
@@ -105,24 +98,84 @@ pub enum FrameKind {
     Page,
 }
 
-// A refusal's number and place, as document 01 lists them.
-#[derive(Clone, Copy)]
+// Why a call is refused. `number` has what document 01 and the cards call each.
+#[derive(Clone, Copy, PartialEq, Eq)]
+pub enum Reason {
+    // The plan: its words, in the order in which they are read, then how many there are, and how many numbers.
+    PlanEnded,
+    Count,
+    Parent,
+    Node,
+    Transition,
+    WordsLeft,
+    NumberCount,
+    Ending,
+    // What a call is given beside the figure.
+    Parameter,
+    State,
+    Output,
+    ClipNode,
+    NotLooping,
+    // A figure's text.
+    Line,
+    Room,
+    TextLength,
+}
+
+impl Reason {
+    pub fn number(self) -> usize
+        ensures { result ≡ number_of self }
+    {
+        match self {
+            Reason::PlanEnded => 1,
+            Reason::Count => 2,
+            Reason::Parent => 3,
+            Reason::Node => 4,
+            Reason::Transition => 5,
+            Reason::WordsLeft => 6,
+            Reason::NumberCount => 7,
+            Reason::Parameter => 8,
+            Reason::State => 9,
+            Reason::Output => 10,
+            Reason::Line => 11,
+            Reason::Room => 12,
+            Reason::TextLength => 13,
+            Reason::Ending => 14,
+            Reason::ClipNode => 16,
+            Reason::NotLooping => 17,
+        }
+    }
+}
+
+// Why, and at which place: a word of the plan, a line of the text; 0 where no place is named.
+#[derive(Clone, Copy, PartialEq, Eq)]
 pub struct Refusal {
-    pub number: usize,
+    pub reason: Reason,
     pub place: usize,
 }
 
-#[derive(Clone, Copy)]
-pub enum Answer {
-    Accepted,
-    Refused(Refusal),
+impl Reason {
+    pub fn at(self, place: usize) -> Refusal
+        ensures { result ≡ record { reason = self; place = place } }
+    {
+        Refusal {
+            reason: self,
+            place,
+        }
+    }
 }
 
-pub fn refused(number: usize, place: usize) -> Answer
-    ensures { values result ≡ refused number place 0 }
-{
-    Answer::Refused(Refusal { number, place })
+impl Refusal {
+    // As answers tell them.
+    pub fn number_and_place(self) -> (usize, usize)
+        ensures { result ≡ (number_of self.reason, self.place) }
+    {
+        (self.reason.number(), self.place)
+    }
 }
+
+// An acceptance that carries nothing beside, or a refusal.
+pub type Answer = Result<(), Refusal>;
 
 // An answer with the player to go on with.
 #[derive(Clone, Copy)]
@@ -132,20 +185,17 @@ pub struct Outcome {
 }
 
 // What a figure can use (document 02, Card 3): a mark for each state that is reachable, each parameter that such a state reads and each clip that it plays.
-// Marks behind the figure's own states, parameters and clips are false, and all are where the figure is refused.
+// Marks behind the figure's own states, parameters and clips are false.
 #[derive(Clone, Copy)]
 pub struct Uses {
-    pub answer: Answer,
     pub states: [bool; MAX_STATES],
     pub parameters: [bool; MAX_PARAMETERS],
     pub clips: [bool; MAX_CLIPS],
 }
 
-// How many whole loops a clip node's clip has played, and how many samples of the next (document 02, Card 7). Both are 0 where
-// the question is refused.
+// How many whole loops a clip node's clip has played, and how many samples of the next (document 02, Card 7).
 #[derive(Clone, Copy)]
 pub struct LoopCount {
-    pub answer: Answer,
     pub loops: usize,
     pub rest: usize,
 }
@@ -171,9 +221,9 @@ pub enum FieldForm {
     Bits,
 }
 
-// The reader's answer: how many words and numbers it wrote, or a refusal.
+// How many words and numbers a figure's text has.
 #[derive(Clone, Copy)]
-pub enum TextAnswer {
-    Accepted { words: usize, numbers: usize },
-    Refused(Refusal),
+pub struct Lengths {
+    pub words: usize,
+    pub numbers: usize,
 }
