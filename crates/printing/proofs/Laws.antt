@@ -1,16 +1,14 @@
 -- Texts put into a slice one behind the other, and how many digits a number has. Assumes nothing.
-use Prim.Native.Nat.{ℕ, zero, suc, ◌+◌, ◌-◌, ◌/◌, ◌%◌, ◌^◌, ◌≤◌, ◌<◌}
-use mathlib.Core.Path.{◌≡◌, refl, ap, sym, ◌∙◌}
-use mathlib.Core.Bool.{Bool, true, false, cond}
-use mathlib.Core.List.{List, [], ◌∷◌, ◌++◌, map, append-nil, append_assoc, map-append}
-use native.Mathlib.Omega.{arith}
-use native.Mathlib.Numerals.{add-one, one-add}
-use native.Mathlib.Nat.{zero-add, pow-suc, div-lt_iff_lt-mul}
-use borrow.Author.Tests.{lt-ltb, le-ltb, ltb-false}
-use lib.Ieee.{Float, nan, binary32, to_bits}
-use lib.Dec.{ltb}
-use lib.ListN.{length, get_or, take, drop, set, length-append}
-use lib.Seq.{sets, sets-eq, length-sets, set_comm, take-suc, take-append_seam}
+use Rattle.std.proofs.Common.{◌≡◌, ℕ, zero, suc, ◌+◌, ◌-◌, ◌*◌, ◌/◌, ◌%◌, ◌^◌, ◌≤◌, ◌<◌, Bool, true, false, cond, ltb, List, [], ◌∷◌, ◌++◌, map, length, get_or, take, drop, set, refl, ap, sym, ◌∙◌, arith, add-one, zero-add, length-append, append_assoc}
+use Rattle.std.specs.Prelude.{max, Float}
+use Rattle.std.specs.Float.{nan, binary32}
+use Rattle.std.specs.Float.Ieee.{to_bits}
+use Rattle.std.proofs.Math.Nat.{pow-succ'}
+use Rattle.std.proofs.Math.Seq.{length-sets, take-suc, take-append_seam}
+use Rattle.std.proofs.lemmas.Bool.{lt-ltb, le-ltb}
+use Rattle.std.proofs.lemmas.List.{append-nil, map-append, drop-drop, set_comm}
+use Rattle.std.proofs.lemmas.List.Edits.{sets, sets-eq}
+use borrow.Rule.Slice.PartMut.{put_mid}
 use Rattle.model.specs.declared.LineKind.TheVariants.{Joint}
 use Rattle.model.specs.Text.{comma, line_feed, name, overwritten}
 use Rattle.model.specs.Program.{glyph, digits, places, decimal_text, bits_text, decimal_fields, bits_fields}
@@ -61,13 +59,12 @@ module _ {A : Type 0} (new old : List A) where
 pub front_text : {text before after : List ℕ} {end : ℕ} → Front text before after end → take end after ≡ text
 front_text {text = text} {before = before} f = rw (f.ended, f.whole) (front_is text before)
 
--- one byte more of a text that is copied
-pub next_byte : {xs ys : List ℕ} {at : ℕ} (bytes : List ℕ) (i : ℕ) → i < length bytes
-    → Written xs at (take i bytes) ys (at + i)
-    → Written xs at (take (i + 1) bytes) (set ys (at + i) (get_or bytes i 0)) (at + (i + 1))
-next_byte {ys = ys} {at = at} bytes i l p =
-    let e : at + (i + 1) ≡ at + i + 1 = omega arith in
-    rw (e, add-one i, take-suc bytes i 0 l) (more_written p (byte_written ys (at + i) (get_or bytes i 0)))
+-- a text that is copied over a part of its length
+pub copied_written : (xs bytes : List ℕ) (at : ℕ) {ys : List ℕ} → at + length bytes ≤ length xs → ys ≡ bytes
+    → Written xs at bytes (put_mid at (at + length bytes - at) xs ys) (at + length bytes)
+copied_written xs bytes at room same =
+    let end : at + (at + length bytes - at) ≡ at + length bytes = omega arith in
+    record { stored = rw (same, drop-drop, end, ← append_assoc) (sym (sets-eq bytes xs at room)); ended = refl }
 
 -- ---- digits
 
@@ -93,31 +90,25 @@ last_digit xs at base (suc k) rest b l e =
 
 -- ---- how many digits
 
-pub one_digit : (fuel n : ℕ) → n < 10 → places fuel n ≡ 1
+-- as many as the greatest power of ten has that is no larger, and one for 0
+pub places_by_power : (fuel k n : ℕ) → k ≤ fuel → 10 ^ k ≤ max n 1 → n < 10 * 10 ^ k → places fuel n ≡ k + 1
 unfolding places
-one_digit zero n small = refl
-one_digit (suc fuel) n small = simp (lt-ltb n 10 small)
-
--- of a number with no more than suc fuel digits, but with more than one, the last is taken off
-pub digit_less : (fuel rest : ℕ) → rest < 10 ^ suc fuel → 10 ≤ rest
-    → (0 < fuel) × (places fuel rest ≡ 1 + places (fuel - 1) (rest / 10)) × (rest / 10 < 10 ^ suc (fuel - 1))
-unfolding places
-digit_less zero rest small large = absurd (omega arith)
-digit_less (suc fuel) rest small large =
-    let e : suc fuel - 1 ≡ fuel = omega arith in
-    let less = (div-lt_iff_lt-mul {k = 10} (omega arith)).1 (rw pow-suc at small) in
-    (omega arith, simp (le-ltb rest 10 large, e, one-add), rw e less)
+places_by_power zero zero n few least small = refl
+places_by_power zero (suc k) n few least small = absurd (omega arith)
+places_by_power (suc fuel) zero n few least small = simp (lt-ltb n 10 (omega arith))
+places_by_power (suc fuel) (suc k) n few least small =
+    let large : 10 ≤ n = omega (arith, pow-succ' 10 k) in
+    simp (le-ltb n 10 large) (omega (arith, places_by_power fuel k (n / 10) (omega arith) (omega (arith, pow-succ' 10 k)) (omega (arith, pow-succ' 10 k))))
 
 few_places : (m fuel n : ℕ) → n < 10 ^ suc m → places fuel n ≤ suc m
 unfolding places
 few_places m zero n small = omega arith
-few_places m (suc fuel) n small =
-    go (ltb n 10) refl (λ large. few_places (m - 1) fuel (n / 10) (digit_less m n small large).2)
+few_places zero (suc fuel) n small = simp (lt-ltb n 10 small) (omega arith)
+few_places (suc m) (suc fuel) n small = go (ltb n 10) (few_places m fuel (n / 10) (omega (arith, pow-succ' 10 (suc m))))
   where
-    go : (t : Bool) → ltb n 10 ≡ t → (10 ≤ n → places fuel (n / 10) ≤ suc (m - 1))
-        → cond t 1 (suc (places fuel (n / 10))) ≤ suc m
-    go true e less = omega arith
-    go false e less = let large = ltb-false n 10 e in omega (arith, less large, (digit_less m n small large).0)
+    go : (t : Bool) → places fuel (n / 10) ≤ suc m → cond t 1 (suc (places fuel (n / 10))) ≤ suc (suc m)
+    go true fewer = omega arith
+    go false fewer = omega arith
 
 -- ---- fields
 
