@@ -10,12 +10,14 @@ use Rattle.std.proofs.lemmas.List.{append-nil, map-append, drop-drop, set_comm}
 use Rattle.std.proofs.lemmas.List.Edits.{sets, sets-eq}
 use borrow.Rule.Slice.PartMut.{put_mid}
 use Rattle.model.specs.declared.LineKind.TheVariants.{Joint}
+use Rattle.model.specs.Plan.{output_at}
 use Rattle.model.specs.Text.{comma, line_feed, name, overwritten}
 use Rattle.model.specs.Program.{glyph, digits, places, decimal_text, bits_text, decimal_fields, bits_fields}
 use Rattle.model.specs.Program.{refused_line, joint_line, joined}
 use Rattle.model.proofs.Laws.Digits.{length_digits}
 use Rattle.model.proofs.Laws.Stores.{sets-append}
-use Rattle.printing.specs.Written.{Written, Front, float_fields}
+use Rattle.printing.specs.Written.{Written, Front, float_fields, matrix_in}
+use Rattle.printing.specs.Sizes.{matrix_floats}
 
 -- ---- texts one behind the other
 
@@ -119,11 +121,12 @@ pub field_written : (xs : List ℕ) (at base count n : ℕ) {ys : List ℕ}
 field_written xs at base count n e =
     record { stored = rw add-one at e; ended = omega (arith, length_digits base count n) }
 
-pub short_decimal : (m n : ℕ) → n < 10 ^ suc m → length (decimal_fields (n ∷ [])) ≤ 2 + m
+-- an index of joints or clip nodes has few digits
+pub short_index : (n : ℕ) → n < 10 ^ 3 → length (decimal_fields (n ∷ [])) ≤ 1 + 3
 unfolding decimal_fields decimal_text
-short_decimal m n small =
+short_index n small =
     let k = places 19 n in
-    omega (arith, ap length (append-nil (digits 10 k n)), length_digits 10 k n, few_places m 19 n small)
+    omega (arith, ap length (append-nil (digits 10 k n)), length_digits 10 k n, few_places 2 19 n small)
 
 -- the bits of one float
 pub float_written : {xs ys : List ℕ} {at end : ℕ} (x : Float) (b : ℕ) → b ≡ to_bits binary32 x
@@ -159,19 +162,22 @@ two_decimals : (m n : ℕ) → decimal_fields (m ∷ n ∷ []) ≡ decimal_field
 unfolding decimal_fields
 two_decimals m n = ap (λ (text : List ℕ). comma ∷ text ++ decimal_fields (n ∷ [])) (sym (append-nil (decimal_text m)))
 
-pub joint_written : {xs a b c : List ℕ} {at p q r : ℕ} (j : ℕ) (floats : List Float) → Written xs at (name Joint) a p
-    → Written a p (decimal_fields (j ∷ [])) b q → Written b q (float_fields floats) c r
-    → Written xs at (joint_line j floats) (set c r line_feed) (r + 1)
+-- of as many floats as a matrix has, from joint j's place on
+pub joint_written : {xs a b c : List ℕ} {at p q r n : ℕ} (j : ℕ) (output : List Float) → n ≡ matrix_floats
+    → Written xs at (name Joint) a p → Written a p (decimal_fields (j ∷ [])) b q
+    → Written b q (float_fields (take n (drop (output_at j) output))) c r
+    → Written xs at (joint_line j (matrix_in output j)) (set c r line_feed) (r + 1)
 unfolding joint_line
-joint_written j floats w d f = more_written (more_written (more_written w d) f) (byte_written _ _ line_feed)
+joint_written j output e w d f =
+    more_written (more_written (more_written w d) (rw e at f)) (byte_written _ _ line_feed)
 
-pub refusal_written : {xs a b c : List ℕ} {at p q r : ℕ} (number place : ℕ)
-    → Written xs at (114 ∷ 101 ∷ 102 ∷ 117 ∷ 115 ∷ 101 ∷ 100 ∷ []) a p → Written a p (decimal_fields (number ∷ [])) b q
+pub refusal_written : {xs a b c : List ℕ} {at p q r n : ℕ} (number place : ℕ) → n ≡ number
+    → Written xs at (114 ∷ 101 ∷ 102 ∷ 117 ∷ 115 ∷ 101 ∷ 100 ∷ []) a p → Written a p (decimal_fields (n ∷ [])) b q
     → Written b q (decimal_fields (place ∷ [])) c r
     → Written xs at (refused_line number place) (set c r line_feed) (r + 1)
 unfolding refused_line
-refusal_written number place w d e =
-    rw (two_decimals number place) (more_written (more_written w (more_written d e)) (byte_written _ _ line_feed))
+refusal_written number place e w d f =
+    rw (two_decimals number place) (more_written (more_written w (more_written (rw e at d) f)) (byte_written _ _ line_feed))
 
 -- one line more
 pub next_line : {xs ys zs : List ℕ} {at middle end : ℕ} (n : ℕ) (lines : ℕ → List ℕ)

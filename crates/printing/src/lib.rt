@@ -1,5 +1,6 @@
 // What programs print, put into a slice of bytes from a place on: fields, a refusal, a line for each joint.
 // Each function returns the place behind what it put.
+// Not by `Display` and `write!`: `write_fmt` says which bytes it wrote only where it answers Ok, and nothing says where it does. `Written` holds at each return.
 #![tactic(auto)]
 
 ghost use Rattle.std.specs.Prelude.{◌≡◌, [], ◌∷◌, ◌+◌, ◌*◌, ◌<◌, ◌≤◌, length};
@@ -32,6 +33,7 @@ const JOINT_SIZE: usize = 5 + (1 + INDEX_DIGITS) + MATRIX_FLOATS * NUMBER_BYTES 
 // All that the program prints.
 pub const MAX_PRINTED: usize = MAX_JOINTS * JOINT_SIZE;
 
+// The byte of a digit.
 fn glyph(d: usize) -> u8
     requires { d < 16 }
     ensures { result ≡ glyph d }
@@ -117,6 +119,7 @@ pub fn put_refusal(out: &mut [u8], at: usize, refusal: Refusal) -> usize
 }
 
 // Joint j's line, for its matrix in an output.
+#[tactic(auto, using(crate::proofs::Laws::short_index))]
 fn put_joint(out: &mut [u8], at: usize, j: usize, output: &[f32]) -> usize
     requires { (j < max_joints)
         × (at + joint_size ≤ length out.old)

@@ -6,5 +6,5 @@ use Rattle.printing.proofs.put_refusal.Goals as goal
 pub returns : goal.returns
 returns c =
     let word = c.put_bytes-behind_name.ensures in
-    let number = rw c.number.ensures at c.put_decimal-behind_number.ensures.0 in
-    (refusal_written _ _ word number c.put_decimal-behind_place.ensures.0, omega arith)
+    let number = c.put_decimal-behind_number.ensures.0 in
+    (refusal_written _ _ (cc) word number c.put_decimal-behind_place.ensures.0, omega arith)
