@@ -3,8 +3,6 @@
 
 ghost use Rattle.std.specs.Prelude.{◌≡◌, ◌≤◌, length, IfSome, IfOk, MatchResult};
 ghost use Rattle.std.specs.IoError.{raw_os_error};
-ghost use Rattle.std.specs.declared.env.FillError.{FillError};
-ghost use Rattle.std.specs.declared.env.FillError.TheVariants.{NotPresent, TooLong};
 
 use input::read_input;
 use std::env::FillError;
