@@ -3,7 +3,7 @@
 use Rattle.std.specs.Prelude.{ℕ, ◌<◌, ◌≡◌, List, Float}
 use Rattle.model.specs.Answers.{accepted}
 use Rattle.model.specs.Check.{check}
-use Rattle.model.specs.Plan.{joint_count, clip_count, state_count, initial_state, state_at, node_count, kind_at, kind, input_a, input_b, node_parameter, transition_count, condition_parameter_at, condition_parameter, operator, target_state, clip_nodes_before, poses_at, number_at, Value, Duration, number}
+use Rattle.model.specs.Plan.{joint_count, clip_count, state_count, initial_state, state_at, node_count, kind_at, kind, input_a, input_b, node_parameter, transition_count, condition_parameter_at, condition_parameter, operator, target_state, clip_nodes_before, poses_at, number_at, Value, Duration, number, numbers_length}
 use Rattle.layout.specs.declared.Layout.{Layout}
 use Rattle.layout.specs.declared.StateLayout.{StateLayout}
 use Rattle.layout.specs.declared.Node.{Node}
@@ -36,6 +36,11 @@ numbers_of plan numbers s t = record { value = number plan numbers (Value s t); 
 pub record Passes (plan : List ℕ) : Type 0 where
   pub numbers : ℕ
   pub passed : check plan numbers ≡ accepted
+
+-- the plan passes with the numbers that it says it has, and this is its layout
+pub record Laid (plan : List ℕ) (layout : Layout) : Type 0 where
+  pub passed : check plan (numbers_length plan) ≡ accepted
+  pub found : layout ≡ layout_of plan
 
 -- this is the layout of one of the plan's states
 pub record InPlan (plan : List ℕ) (here : StateLayout) : Type 0 where

@@ -1,4 +1,4 @@
--- `layout::state_layout` meets its contract. Invariant: the places and the count are those of state s. The check has seen that the words are there,
+-- `layout::passed::Plan::state_layout` meets its contract. Invariant: the places and the count are those of state s. The check has seen that the words are there,
 -- and its limits keep the sums small. Assumes nothing.
 use Prim.Native.Nat.{◌+◌, ◌*◌, ◌≤◌, ◌<◌}
 use mathlib.Core.Path.{◌≡◌, refl, ap}
@@ -8,33 +8,33 @@ use lib.ListN.{length}
 use Rattle.model.specs.Text.{max_word}
 use Rattle.model.specs.Plan.{word, state_count, total, clip_nodes_before, transitions_before, number_at}
 use Rattle.layout.specs.Layout.{layout_of}
-use Rattle.layout.proofs.Laws.{state_ok, counts_read, clips_small, values_small, state_next, values_next, clips_next, state_found}
-use Rattle.layout.proofs.state_layout.Goals as goal
-use Rattle.layout.proofs.state_layout.Goals.{At-loop-s}
+use Rattle.layout.proofs.Laws.{laid_passes, state_ok, counts_read, clips_small, values_small, state_next, values_next, clips_next, state_found}
+use Rattle.layout.proofs.passed.Plan.state_layout.Goals as goal
+use Rattle.layout.proofs.passed.Plan.state_layout.Goals.{At-loop-s}
 
 known : (c : At-loop-s)
-    → let plan = c.args.plan.now in
+    → let plan = c.args.self.now.words.now in
     let at = c.loop-s.at in
     (at + 1 + 4 * word plan at < length plan) × (c.loop-s.values_at ≤ max_word) × (c.loop-s.clip_node ≤ max_word)
 known c =
-    let ok = c.requires.0 in
-    let below : c.loop-s.s < state_count c.args.plan.now = omega arith in
+    let ok = (laid_passes c.args.self.now.laid) in
+    let below : c.loop-s.s < state_count c.args.self.now.words.now = omega arith in
     (counts_read _ _ _ _ c.loop-s.invariant.0 refl (state_ok _ ok _ below), omega (arith, values_small _ ok _ below), omega (arith, clips_small _ ok _ below))
 
 pub loop-s-init : goal.loop-s-init
 unfolding transitions_before total clip_nodes_before number_at layout_of
 loop-s-init c =
-    let e = c.requires.1 in
-    (ap (λ l. l.states_at) e, omega (arith, ap (λ l. l.clips) e), refl, omega arith)
+    let e = c.args.self.now.laid.found in
+    (ap (λ l. l.states_at) e, omega (arith, ap (λ l. l.clips) e), refl)
 
 pub loop-s-preserved : goal.loop-s-preserved
 loop-s-preserved c =
     let k = c.word_there-nodes.ensures.0 in
     let t = c.word_there-transitions.ensures.0 in
     let e = c.loop-s.invariant.0 in
-    let ok = c.requires.0 in
-    let below : c.loop-s.s < state_count c.args.plan.now = omega arith in
-    (state_next _ _ _ _ e k _ t, values_next _ _ _ _ e k _ t _ c.loop-s.invariant.1, clips_next _ _ _ _ e k (state_ok _ ok _ below) _ c.loop-s.invariant.2, omega arith)
+    let ok = (laid_passes c.args.self.now.laid) in
+    let below : c.loop-s.s < state_count c.args.self.now.words.now = omega arith in
+    (state_next _ _ _ _ e k _ t, values_next _ _ _ _ e k _ t _ c.loop-s.invariant.1, clips_next _ _ _ _ e k (state_ok _ ok _ below) _ c.loop-s.invariant.2)
 
 pub returns : goal.returns
 returns c =

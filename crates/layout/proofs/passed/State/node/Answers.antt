@@ -1,17 +1,17 @@
--- `layout::node_at` meets its contract: the check has seen that the node's four words are there. Assumes nothing.
+-- `layout::passed::State::node` meets its contract: the check has seen that the node's four words are there. Assumes nothing.
 use native.Mathlib.Omega.{arith}
 use Rattle.model.specs.Plan.{kind, input_a, input_b, node_parameter}
 use Rattle.layout.specs.Layout.{node_of}
-use Rattle.layout.proofs.Laws.{node_found, node_words, words}
-use Rattle.layout.proofs.node_at.Goals as goal
+use Rattle.layout.proofs.Laws.{laid_passes, node_found, node_words, words}
+use Rattle.layout.proofs.passed.State.node.Goals as goal
 
 pub returns : goal.returns
 unfolding kind input_a input_b node_parameter node_of
 returns c =
-    rw (c.word_there-4.ensures.0, c.word_there-3.ensures.0, c.word_there-2.ensures.0, c.word_there.ensures.0, node_found c.requires.1 c.args.i)
+    rw (c.word_there-4.ensures.0, c.word_there-3.ensures.0, c.word_there-2.ensures.0, c.word_there.ensures.0, node_found c.args.self.now.place c.args.i)
 
 pub overflow_mul-at : goal.overflow_mul-at
-overflow_mul-at c = omega (arith, node_words c.requires.1 c.requires.0 _ c.requires.2)
+overflow_mul-at c = omega (arith, node_words c.args.self.now.place (laid_passes c.args.self.now.plan.laid) _ c.requires)
 
 pub overflow_add-at : goal.overflow_add-at
 overflow_add-at c = search words
