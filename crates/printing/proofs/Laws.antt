@@ -117,7 +117,7 @@ pub float_written : {xs ys : List ℕ} {at end : ℕ} (x : Float) (b : ℕ) → 
 unfolding bits_fields bits_text
 float_written x b e p = rw (append-nil, ← e) p
 
-pub bits_append : (vs ws : List ℕ) → bits_fields (vs ++ ws) ≡ bits_fields vs ++ bits_fields ws
+bits_append : (vs ws : List ℕ) → bits_fields (vs ++ ws) ≡ bits_fields vs ++ bits_fields ws
 unfolding bits_fields
 bits_append [] ws = refl
 bits_append (v ∷ vs) ws =
