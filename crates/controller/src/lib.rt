@@ -10,7 +10,6 @@ ghost use Rattle.model.specs.Clips.{blank_instances};
 ghost use Rattle.model.specs.Controller.{blank, fresh, synchronize_states};
 ghost use Rattle.model.specs.Promises.{Started, Updated, SpeedSet, ParameterSet, Framed};
 
-use blend_tree::synchronize::synchronize_state;
 use blend_tree::{SLOTS, StateAt};
 use frames::Parts;
 use layout::passed::Figure;
@@ -62,7 +61,7 @@ fn synchronize_states(
             here: figure.plan.state_layout(s),
             time: 0.0,
         };
-        synchronize_state(&state, parameters, &mut slots, instances);
+        state.synchronize(parameters, &mut slots, instances);
     }
 }
 
