@@ -9,6 +9,6 @@ use Rattle.printing.proofs.Writer.put_field.Goals as goal
 pub returns : goal.returns
 returns c =
     let a = c.args in
-    let as_many = ap (λ (n : ℕ). digits a.base n a.n) (omega (arith, length-take {A = ℕ}, length-drop {A = ℕ})) in
     more_written c.put_bytes.ensures
-    (copied _ _ (sym (length_digits a.base a.count a.n)) (omega arith) (c.put_digits.ensures ∙ as_many))
+    (copied _ (digits a.base a.count a.n) (sym (length_digits a.base a.count a.n)) (omega arith)
+    (c.put_digits.ensures ∙ ap (λ (n : ℕ). digits a.base n a.n) (omega (arith, length-take {A = ℕ}, length-drop {A = ℕ}))))
