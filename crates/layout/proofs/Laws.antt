@@ -4,21 +4,29 @@ use Prim.Native.Nat.{ℕ, ◌+◌, ◌*◌, ◌/◌, ◌^◌, ◌≤◌, ◌<◌
 use native.Mathlib.Nat.{add-zero}
 use native.Mathlib.Numerals.{add-one}
 use native.Mathlib.Omega.{arith}
-use mathlib.Core.Path.{◌≡◌, refl, ap, sym, ◌∙◌}
+use mathlib.Core.Path.{◌≡◌, refl, ap, sym, subst, ◌∙◌}
 use mathlib.Core.List.{List}
 use lib.ListN.{length}
 use mir.Syntax.{w64}
 use mir.Val.{Fits}
 use Rattle.model.specs.Answers.{accepted}
 use Rattle.model.specs.Text.{max_word}
-use Rattle.model.specs.Plan.{max_nodes, word, joint_count, clip_count, state_count, after_nodes, after_transitions, state_at, node_count, kind_at, transition_count_at, transition_count, condition_parameter_at, total, clip_nodes_before, transitions_before, number_at, Value, Duration}
-use Rattle.model.specs.Check.{check_state}
+use Rattle.model.specs.Plan.{max_nodes, word, joint_count, clip_count, state_count, after_nodes, after_transitions, state_at, node_count, kind_at, transition_count_at, transition_count, condition_parameter_at, total, clip_nodes_before, transitions_before, number_at, Value, Duration, numbers_length}
+use Rattle.model.specs.Check.{check, check_state}
 use Rattle.model.proofs.Laws.State.{node_there, transition_there, transition_count_there, few_nodes, few_transitions}
 use Rattle.model.proofs.Laws.Trees.{clip_nodes_divided}
-use Rattle.model.proofs.Laws.Passed.{state_passed, few_joints, few_clips, few_states, few_transitions_before, few_clip_nodes_before}
+use Rattle.model.proofs.Laws.Passed.{state_passed, few_joints, few_clips, few_states, few_transitions_before, few_clip_nodes_before, numbers_fit}
 use Rattle.layout.specs.declared.Layout.{Layout}
 use Rattle.layout.specs.declared.StateLayout.{StateLayout}
-use Rattle.layout.specs.Layout.{Passes, InPlan, layout_of, state_layout}
+use Rattle.layout.specs.Layout.{Passes, Laid, InPlan, layout_of, state_layout}
+
+-- what a plan that passed is to the laws below
+pub laid_passes : {plan : List ℕ} {layout : Layout} → Laid plan layout → Passes plan
+laid_passes {plan} laid = record { numbers = numbers_length plan; passed = laid.passed }
+
+-- it passes with no other count of numbers
+pub is_laid : (plan : List ℕ) (n : ℕ) (layout : Layout) → check plan n ≡ accepted → layout ≡ layout_of plan → Laid plan layout
+is_laid plan n layout ok e = record { passed = subst (λ m. check plan m ≡ accepted) (numbers_fit plan n ok) ok; found = e }
 
 -- ---- groups of words
 

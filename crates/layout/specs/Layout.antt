@@ -3,7 +3,8 @@
 use Rattle.std.specs.Prelude.{ℕ, ◌<◌, ◌≡◌, List, Float}
 use Rattle.model.specs.Answers.{accepted}
 use Rattle.model.specs.Check.{check}
-use Rattle.model.specs.Plan.{joint_count, clip_count, state_count, initial_state, state_at, node_count, kind_at, kind, input_a, input_b, node_parameter, transition_count, condition_parameter_at, condition_parameter, operator, target_state, clip_nodes_before, poses_at, number_at, Value, Duration, number}
+use Rattle.model.specs.Plan.{joint_count, clip_count, state_count, initial_state, state_at, node_count, kind_at, kind, input_a, input_b, node_parameter, transition_count, condition_parameter_at, condition_parameter, operator, target_state, clip_nodes_before, poses_at, number_at, Value, Duration, number, numbers_length}
+use Rattle.layout.specs.Kinds.{kind_of, operator_of}
 use Rattle.layout.specs.declared.Layout.{Layout}
 use Rattle.layout.specs.declared.StateLayout.{StateLayout}
 use Rattle.layout.specs.declared.Node.{Node}
@@ -20,11 +21,11 @@ state_layout plan s =
 
 -- node i of state s
 unfoldable pub node_of : List ℕ → ℕ → ℕ → Node
-node_of plan s i = record { kind = kind plan s i; a = input_a plan s i; b = input_b plan s i; parameter = node_parameter plan s i }
+node_of plan s i = record { kind = kind_of (kind plan s i); a = input_a plan s i; b = input_b plan s i; parameter = node_parameter plan s i }
 
 -- what state s asks before its transition t, and where that leads
 unfoldable pub condition_of : List ℕ → ℕ → ℕ → Condition
-condition_of plan s t = record { parameter = condition_parameter plan s t; operator = operator plan s t; target = target_state plan s t }
+condition_of plan s t = record { parameter = condition_parameter plan s t; operator = operator_of (operator plan s t); target = target_state plan s t }
 
 -- the numbers of transition t of state s
 unfoldable pub numbers_of : List ℕ → List Float → ℕ → ℕ → TransitionNumbers
@@ -36,6 +37,11 @@ numbers_of plan numbers s t = record { value = number plan numbers (Value s t); 
 pub record Passes (plan : List ℕ) : Type 0 where
   pub numbers : ℕ
   pub passed : check plan numbers ≡ accepted
+
+-- the plan passes with the numbers that it says it has, and this is its layout
+pub record Laid (plan : List ℕ) (layout : Layout) : Type 0 where
+  pub passed : check plan (numbers_length plan) ≡ accepted
+  pub found : layout ≡ layout_of plan
 
 -- this is the layout of one of the plan's states
 pub record InPlan (plan : List ℕ) (here : StateLayout) : Type 0 where

@@ -1,4 +1,4 @@
-// Where the words and numbers of a plan stand. No other crate adds up places; what each one is stands in model's Plan.
+// Where the words and numbers of a plan stand. `passed` has what is read of a plan that passed its check. No other crate adds up places; what each one is stands in model's Plan.
 #![tactic(auto)]
 
 ghost use Rattle.std.specs.Prelude.{◌≡◌, List, ℕ, ◌+◌, ◌*◌, ◌<◌, ◌≤◌, length, get_or};
@@ -7,6 +7,7 @@ ghost use Rattle.model.specs.Text.{max_word};
 ghost use Rattle.model.specs.Plan.{max_joints, max_clips, max_samples, is_root_word, word, joint_count, clip_count, state_count};
 ghost use Rattle.model.specs.Plan.{parent_at, parent, sample_count_at, sample_count, is_stopping};
 ghost use Rattle.model.specs.Plan.{samples_before, number, Rate};
+ghost use Rattle.layout.specs.Kinds.{kind_of, operator_of};
 ghost use Rattle.layout.specs.Layout.{layout_of, state_layout, node_of, condition_of, numbers_of};
 ghost use Rattle.layout.specs.Layout.{Passes, InPlan, HasTransition};
 
@@ -14,6 +15,8 @@ use model::limits::{
     BYTE_ROOT, MAX_BYTE_ROOT_JOINTS, MAX_CLIPS, MAX_JOINTS, MAX_NODES, MAX_STATES, MAX_TRANSITIONS,
     POSE_FLOATS, ROOT,
 };
+
+pub mod passed;
 
 // The header's words, and the first parent.
 pub const JOINT_COUNT_AT: usize = 0;
@@ -70,18 +73,68 @@ pub struct StateLayout {
     pub clip_node: usize,
 }
 
+// What a node does: it plays a clip, or makes one pose of those of two earlier nodes.
+#[derive(Clone, Copy, PartialEq, Eq)]
+pub enum Kind {
+    Clip,
+    Lerp,
+    Additive,
+}
+
+// By its number in the plan. The check lets none above 2 pass.
+impl From<usize> for Kind {
+    ghost from_gives = { λ number r. r ≡ kind_of number };
+
+    #[tactic(auto, unfolding(crate::specs::Kinds::kind_of))]
+    fn from(number: usize) -> Kind {
+        match number {
+            0 => Kind::Clip,
+            1 => Kind::Lerp,
+            _ => Kind::Additive,
+        }
+    }
+}
+
 #[derive(Clone, Copy)]
 pub struct Node {
-    pub kind: usize,
+    pub kind: Kind,
     pub a: usize,
     pub b: usize,
     pub parameter: usize,
 }
 
+// How a condition compares its parameter, on the left, with its value: < <= > >= == !=.
+#[derive(Clone, Copy, PartialEq, Eq)]
+pub enum Operator {
+    Less,
+    AtMost,
+    Greater,
+    AtLeast,
+    Equal,
+    Unequal,
+}
+
+// By its number in the plan. The check lets none above 5 pass.
+impl From<usize> for Operator {
+    ghost from_gives = { λ number r. r ≡ operator_of number };
+
+    #[tactic(auto, unfolding(crate::specs::Kinds::operator_of))]
+    fn from(number: usize) -> Operator {
+        match number {
+            0 => Operator::Less,
+            1 => Operator::AtMost,
+            2 => Operator::Greater,
+            3 => Operator::AtLeast,
+            4 => Operator::Equal,
+            _ => Operator::Unequal,
+        }
+    }
+}
+
 #[derive(Clone, Copy)]
 pub struct Condition {
     pub parameter: usize,
-    pub operator: usize,
+    pub operator: Operator,
     pub target: usize,
 }
 
@@ -96,7 +149,7 @@ pub struct TransitionNumbers {
 pub fn word(plan: &[u16], i: usize) -> usize
     ensures { (result ≡ word plan.now i) × (result ≤ max_word) }
 {
-    if i < plan.len() { plan[i] as usize } else { 0 }
+    usize::from(plan.get(i).copied().unwrap_or(0))
 }
 
 // A word that is there, read without a test.
@@ -131,22 +184,6 @@ pub fn sample_count_at(joints: usize, c: usize) -> usize
     PARENTS_AT + joints + CLIP_WORDS * c
 }
 
-// Of a clip that the plan has.
-pub fn sample_count(plan: &[u16], layout: Layout, c: usize) -> usize
-    requires { Passes plan.now × (layout ≡ layout_of plan.now) × (c < clip_count plan.now) }
-    ensures { result ≡ sample_count plan.now c }
-{
-    word_there(plan, sample_count_at(layout.joints, c))
-}
-
-// Whether a clip that the plan has stops on its last sample. Its ending stands behind its sample count.
-pub fn is_stopping(plan: &[u16], layout: Layout, c: usize) -> bool
-    requires { Passes plan.now × (layout ≡ layout_of plan.now) × (c < clip_count plan.now) }
-    ensures { result ≡ is_stopping plan.now c }
-{
-    word_there(plan, sample_count_at(layout.joints, c) + 1) == 1
-}
-
 // How many samples the clips before c have, whose words are there. The check asks too, before it knows that the plan
 // passes.
 pub fn samples_before(plan: &[u16], joints: usize, c: usize) -> usize
@@ -157,81 +194,17 @@ pub fn samples_before(plan: &[u16], joints: usize, c: usize) -> usize
     ensures { (result ≡ samples_before plan.now c) × (result ≤ c * max_word) }
 {
     let mut sum = 0;
-    let mut k = 0;
-    while k < c {
+    for k in 0..c {
         sum += word_there(plan, sample_count_at(joints, k));
-        k += 1;
     }
     sum
-}
-
-// Walks over the states before it. Of K nodes (K + 1) / 2 are clips, whatever the tree, so no node is looked at.
-pub fn state_layout(plan: &[u16], layout: Layout, state: usize) -> StateLayout
-    requires { Passes plan.now × (layout ≡ layout_of plan.now) × (state < state_count plan.now) }
-    ensures { result ≡ state_layout plan.now state }
-{
-    let mut at = layout.states_at;
-    let mut values_at = layout.clips;
-    let mut clip_node = 0;
-    let mut s = 0;
-    while s < state {
-        let nodes = word_there(plan, at);
-        let transitions_at = at + 1 + NODE_WORDS * nodes;
-        let transitions = word_there(plan, transitions_at);
-        clip_node += (nodes + 1) / 2;
-        values_at += TRANSITION_NUMBERS * transitions;
-        at = transitions_at + 1 + TRANSITION_WORDS * transitions;
-        s += 1;
-    }
-    let nodes = word_there(plan, at);
-    let transitions_at = at + 1 + NODE_WORDS * nodes;
-    StateLayout {
-        state: state,
-        nodes_at: at + 1,
-        nodes: nodes,
-        transitions_at: transitions_at + 1,
-        transitions: word_there(plan, transitions_at),
-        values_at: values_at,
-        clip_node: clip_node,
-    }
-}
-
-// Of a node that the state has.
-pub fn node_at(plan: &[u16], here: StateLayout, i: usize) -> Node
-    requires { Passes plan.now × InPlan plan.now here × (i < here.nodes) }
-    ensures { result ≡ node_of plan.now here.state i }
-{
-    let at = here.nodes_at + NODE_WORDS * i;
-    Node {
-        kind: word_there(plan, at),
-        a: word_there(plan, at + 1),
-        b: word_there(plan, at + 2),
-        parameter: word_there(plan, at + 3),
-    }
-}
-
-// Of a transition that the state has.
-pub fn condition_at(plan: &[u16], here: StateLayout, t: usize) -> Condition
-    requires { Passes plan.now × InPlan plan.now here × (t < here.transitions) }
-    ensures { result ≡ condition_of plan.now here.state t }
-{
-    let at = here.transitions_at + TRANSITION_WORDS * t;
-    Condition {
-        parameter: word_there(plan, at),
-        operator: word_there(plan, at + 1),
-        target: word_there(plan, at + 2),
-    }
 }
 
 // A number, NaN past the end.
 pub fn number(numbers: &[f32], i: usize) -> f32
     ensures { result ≡ get_or numbers.now i nan }
 {
-    if i < numbers.len() {
-        numbers[i]
-    } else {
-        0.0 / 0.0
-    }
+    numbers.get(i).copied().unwrap_or(0.0 / 0.0)
 }
 
 // Of clip c, whatever the plan: the numbers begin with the rates.

@@ -10,8 +10,8 @@ use lib.Dec.{ltb, leb, eqb}
 use lib.ListN.{get_or, length, set, length-set, replicate, length-replicate, get_or-replicate}
 use lib.Seq.{get_or-set_same, get_or-set_other}
 use borrow.Author.Tests.{ltb-true, lt-ltb, le-ltb, eq-eqb, ne_eqb}
-use Rattle.model.specs.declared.Answer.{Answer}
-use Rattle.model.specs.declared.Answer.TheVariants.{Accepted}
+use Rattle.model.specs.declared.Refusal.{Refusal}
+use Rattle.std.specs.Prelude.{Result, Ok}
 use Rattle.model.specs.Answers.{Verdict, accepted, refused, values, ◌then◌, each, require}
 use Rattle.model.specs.Plan.{max_nodes, max_clip_nodes, word, kind_at, kind, is_clip, input_a, input_b, node_parameter, clip_node_at}
 use Rattle.model.specs.Check.{word_is, used, check_node}
@@ -20,8 +20,8 @@ use Rattle.model.proofs.Laws.Tests.{word_true, and_left}
 use Rattle.model.proofs.Laws.ClipNodes.{first_clip_node, clip_counts, blend_counts_not}
 use Rattle.plan.specs.declared.words.Counts.{Counts}
 use Rattle.plan.specs.declared.nodes.NodePlace.{NodePlace}
-use Rattle.plan.specs.Parts.{CountsOf, is_free, check_clip_node, check_blend_node, check_node_at, marks_after, clip_node_after, HasInputs, Begins, Marks}
-use Rattle.plan.proofs.Laws.{stops, goes, Passing, passing_none, passing_next}
+use Rattle.plan.specs.Parts.{CountsOf, check_clip_node, check_blend_node, check_node_at, marks_after, clip_node_after, HasInputs, Begins, Marks}
+use Rattle.plan.proofs.Laws.{Passing, passing_none, passing_next}
 
 -- ---- the words after the kind of a clip node
 
@@ -30,51 +30,25 @@ module _ (plan : List ℕ) (node : NodePlace) (counts : Counts) where
   unfolding check_clip_node require ◌then◌
   clip_full h = rw (le-ltb node.clip_node _ h)
 
-  module _ (few : node.clip_node < max_clip_nodes) where
-    clip_words_lem : check_clip_node plan node counts ≡ word_is plan 4 (node.at + 1) (ltb (word plan (node.at + 1)) counts.clips) then word_is plan 4 (node.at + 2) (eqb (word plan (node.at + 2)) 0) then word_is plan 4 (node.at + 3) (eqb (word plan (node.at + 3)) 0)
-    unfolding check_clip_node require ◌then◌
-    clip_words_lem = rw (lt-ltb node.clip_node _ few)
+  pub clip_words : node.clip_node < max_clip_nodes
+      → word_is plan 4 (node.at + 1) (ltb (word plan (node.at + 1)) counts.clips) then word_is plan 4 (node.at + 2) (eqb (word plan (node.at + 2)) 0) then word_is plan 4 (node.at + 3) (eqb (word plan (node.at + 3)) 0)
+      ≡ check_clip_node plan node counts
+  unfolding check_clip_node require ◌then◌
+  clip_words few = rw (lt-ltb node.clip_node _ few)
 
-    module _ (a : Answer) (e : values a ≡ word_is plan 4 (node.at + 1) (ltb (word plan (node.at + 1)) counts.clips)) where
-      pub clip_stops : (a ≡ Accepted → ⊥) → values a ≡ check_clip_node plan node counts
-      clip_stops t = stops _ _ _ t (stops _ _ _ t e) ∙ sym clip_words_lem
-
-      module _ (q : a ≡ Accepted) (x : ℕ) (is : x ≡ word plan (node.at + 2)) (b : Answer) (e₂ : values b ≡ word_is plan 4 (node.at + 2) (eqb x 0)) where
-        pub clip_stops_second : (b ≡ Accepted → ⊥) → values b ≡ check_clip_node plan node counts
-        clip_stops_second t = stops _ _ _ t (goes _ _ _ _ q e (rw is at e₂)) ∙ sym clip_words_lem
-
-        pub clip_ends : b ≡ Accepted → (y : ℕ) → y ≡ word plan (node.at + 3) → (c : Answer) → values c ≡ word_is plan 4 (node.at + 3) (eqb y 0) → values c ≡ check_clip_node plan node counts
-        clip_ends q₂ y is₃ c e₃ = goes _ _ _ _ q₂ (goes _ _ _ _ q e (rw is at e₂)) (rw is₃ at e₃) ∙ sym clip_words_lem
-
--- ---- the words after the kind of any other node: its first input, and both
-
-abbrev pub first_input : List ℕ → NodePlace → List Bool → Verdict
-first_input plan node marks = word_is plan 4 (node.at + 1) (is_free marks node.i (word plan (node.at + 1)))
-
-abbrev pub both_inputs : List ℕ → NodePlace → List Bool → Verdict
-both_inputs plan node marks =
-    first_input plan node marks then
-    word_is plan 4 (node.at + 2) (is_free marks node.i (word plan (node.at + 2)) && not (eqb (word plan (node.at + 1)) (word plan (node.at + 2))))
-
-module _ (plan : List ℕ) (node : NodePlace) (marks : List Bool) (x : ℕ) (is : x ≡ word plan (node.at + 1)) where
-  pub first_input_lem : (f : Bool) → f ≡ is_free marks node.i x → (a : Answer) → values a ≡ word_is plan 4 (node.at + 1) f → values a ≡ first_input plan node marks
-  first_input_lem f free a e = e ∙ rw (free, is)
-
-  pub both_inputs_lem : (a : Answer) → a ≡ Accepted → values a ≡ first_input plan node marks → (y : ℕ) → y ≡ word plan (node.at + 2) → (f : Bool) → f ≡ is_free marks node.i y
-      → (b : Answer) → values b ≡ word_is plan 4 (node.at + 2) (f && not (eqb x y)) → values b ≡ both_inputs plan node marks
-  both_inputs_lem a q one y is₂ f free b e = goes _ _ _ _ q one (e ∙ rw (free, is, is₂))
-
--- ---- all words of a node whose kind is w
+-- ---- all words of a node
 
 module _ (plan : List ℕ) (node : NodePlace) (counts : Counts) (marks : List Bool) where
-  module _ (k : Answer) (e : values k ≡ word_is plan 4 node.at (leb (word plan node.at) 2)) (q : k ≡ Accepted) (w : ℕ) (is : w ≡ word plan node.at) (a : Answer) where
-    pub clip_goes : w ≡ 0 → values a ≡ check_clip_node plan node counts → values a ≡ check_node_at plan node counts marks
-    unfolding check_node_at
-    clip_goes z n = goes _ _ _ _ q e n ∙ rw (eq-eqb (word plan node.at) 0 (sym is ∙ z))
+  abbrev kind_word : Verdict
+  kind_word = word_is plan 4 node.at (leb (word plan node.at) 2)
 
-    pub blend_goes : (w ≡ 0 → ⊥) → values a ≡ check_blend_node plan node counts marks → values a ≡ check_node_at plan node counts marks
-    unfolding check_node_at
-    blend_goes z n = goes _ _ _ _ q e n ∙ rw (ne_eqb (word plan node.at) 0 (λ h. z (is ∙ h)))
+  pub clip_goes : eqb (word plan node.at) 0 ≡ true → kind_word then check_clip_node plan node counts ≡ check_node_at plan node counts marks
+  unfolding check_node_at
+  clip_goes z = rw z
+
+  pub blend_goes : eqb (word plan node.at) 0 ≡ false → kind_word then check_blend_node plan node counts marks ≡ check_node_at plan node counts marks
+  unfolding check_node_at
+  blend_goes z = rw z
 
   -- one that passed has earlier nodes for inputs
   module _ (ok : check_node_at plan node counts marks ≡ accepted) where
@@ -203,14 +177,14 @@ module _ (plan : List ℕ) (s at m : ℕ) (begins : Begins plan s at m) where
   node_place i = rw begins.place
 
   module _ {k i : ℕ} {marks : List Bool} {n : ℕ} (so_far : NodesPassed plan s k i marks n) (more : i < k) (few : k ≤ max_nodes) (counts : Counts) (count : CountsOf plan counts)
-      (a : Answer) (this : values a ≡ check_node_at plan (record { i = i; at = at + 1 + 4 * i; clip_node = n }) counts marks) where
+      (A : Type 0) (a : Result A Refusal) (this : values a ≡ check_node_at plan (record { i = i; at = at + 1 + 4 * i; clip_node = n }) counts marks) where
     pub node_verdict : values a ≡ check_node plan s i
     node_verdict = this ∙ node_same plan s _ (node_place i) so_far.number counts count (omega arith) marks so_far.marked
 
-    pub node_next : a ≡ Accepted → NodesPassed plan s k (i + 1) (marks_after plan (at + 1 + 4 * i) marks) (clip_node_after plan (at + 1 + 4 * i) n)
-    node_next q =
+    pub node_next : (x : A) → a ≡ Ok x → NodesPassed plan s k (i + 1) (marks_after plan (at + 1 + 4 * i) marks) (clip_node_after plan (at + 1 + 4 * i) n)
+    node_next x q =
         record {
-          passing = passing_next so_far.passing more a node_verdict q;
+          passing = passing_next so_far.passing more x (rw q at node_verdict);
           sized = marks_length plan _ marks ∙ so_far.sized;
           marked = record { mark = λ j h. rw (add-one i) (mark_next plan s i _ (node_place i) marks so_far.marked so_far.sized j h) };
           number = rw (add-one i) (clip_node_next plan s i _ (node_place i) n so_far.number);
@@ -224,7 +198,7 @@ marks_all plan s i marks so_far n h k = let q : n ≡ i = omega arith in rw q so
 module _ (marks : List Bool) (place : ℕ) {n k : ℕ} (so_far : Passing (λ k. require (get_or marks k false) 4 place) n k) (more : k < n) where
   pub used_next : get_or marks k false ≡ true → Passing (λ k. require (get_or marks k false) 4 place) n (k + 1)
   unfolding require values
-  used_next e = passing_next so_far more Accepted (rw e) refl
+  used_next e = passing_next so_far more {A = Unit} tt (rw e)
 
   pub unused_stops : get_or marks k false ≡ false → refused 4 place 0 ≡ each n (λ k. require (get_or marks k false) 4 place)
   unfolding require

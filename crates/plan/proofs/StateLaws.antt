@@ -7,8 +7,8 @@ use mathlib.Core.List.{List}
 use lib.Dec.{leb}
 use lib.ListN.{get_or}
 use borrow.Author.Tests.{leb-true}
-use Rattle.model.specs.declared.Answer.{Answer}
-use Rattle.model.specs.declared.Answer.TheVariants.{Accepted}
+use Rattle.model.specs.declared.Refusal.{Refusal}
+use Rattle.std.specs.Prelude.{Result, Ok, Err}
 use Rattle.model.specs.Answers.{Verdict, accepted, values, ◌then◌, each, require}
 use Rattle.model.specs.Plan.{max_nodes, max_transitions, word, state_at, node_count, after_nodes, transition_count_at, transition_count, condition_parameter_at, condition_parameter, operator, target_state}
 use Rattle.model.specs.Check.{word_is, within, used, check_node, check_transition, check_state}
@@ -18,7 +18,7 @@ use Rattle.model.proofs.Laws.State.{few_nodes, few_transitions}
 use Rattle.layout.proofs.Laws.{nodes_are, transitions_are, condition_place}
 use Rattle.plan.specs.declared.words.Counts.{Counts}
 use Rattle.plan.specs.Parts.{CountsOf, check_transition_at, Marks}
-use Rattle.plan.proofs.Laws.{stops, passed}
+use Rattle.model.proofs.Laws.Exits.{more, passed}
 
 each_same : (f g : ℕ → Verdict) (n : ℕ) → ((k : ℕ) → k < n → f k ≡ g k) → each n f ≡ each n g
 unfolding each
@@ -49,16 +49,17 @@ parts : (plan : List ℕ) (s at k : ℕ) → at ≡ state_at plan s → k ≡ wo
 unfolding check_state node_count transition_count_at transition_count after_nodes
 parts plan s at k place count = rw (count, place)
 
-pub count_stops : (plan : List ℕ) (s at : ℕ) → at ≡ state_at plan s → (a : Answer) → values a ≡ count_of plan at → (a ≡ Accepted → ⊥) → values a ≡ check_state plan s
-count_stops plan s at place a e t = stops _ _ _ t (stops _ _ _ t (stops _ _ _ t (stops _ _ _ t e))) ∙ sym (parts plan s at _ place refl)
+-- at the exits below, a refusal of a part is that of the state
+pub count_stops : (plan : List ℕ) (s at : ℕ) → at ≡ state_at plan s → (A : Type 0) (e : Refusal) → values {A = A} (Err e) ≡ count_of plan at → values {A = A} (Err e) ≡ check_state plan s
+count_stops plan s at place A e told = more A e _ _ (more A e _ _ (more A e _ _ (more A e _ _ told))) ∙ sym (parts plan s at _ place refl)
 
 -- K passed
 pub record Counted (plan : List ℕ) (at k : ℕ) : Type 0 where
   pub count : k ≡ word plan at
   pub passes : count_of plan at ≡ accepted
 
-pub is_counted : (plan : List ℕ) (at k : ℕ) → k ≡ word plan at → (a : Answer) → a ≡ Accepted → values a ≡ count_of plan at → Counted plan at k
-is_counted plan at k count a q e = record { count = count; passes = passed _ _ q e }
+pub is_counted : {A : Type 0} (plan : List ℕ) (at k : ℕ) → k ≡ word plan at → (x : A) → values {A = A} (Ok x) ≡ count_of plan at → Counted plan at k
+is_counted plan at k count x told = record { count = count; passes = passed x _ told }
 
 module _ {plan : List ℕ} {at k : ℕ} (so_far : Counted plan at k) where
   pub nodes_between : (1 ≤ k) × (k ≤ max_nodes)
@@ -68,38 +69,37 @@ module _ {plan : List ℕ} {at k : ℕ} (so_far : Counted plan at k) where
     state_parts : check_state plan s ≡ tree_of plan s at k then word_is plan 2 (at + 1 + 4 * k) (leb (word plan (at + 1 + 4 * k)) max_transitions) then each (word plan (at + 1 + 4 * k)) (check_transition plan s)
     state_parts = parts plan s at k place so_far.count
 
-    pub nodes_stop : (a : Answer) → values a ≡ each k (check_node plan s) → (a ≡ Accepted → ⊥) → values a ≡ check_state plan s
-    nodes_stop a e t = stops _ _ _ t (stops _ _ _ t (stops _ _ _ t (e ∙ sym (then_accepted _ _ so_far.passes)))) ∙ sym state_parts
+    pub nodes_stop : (A : Type 0) (e : Refusal) → values {A = A} (Err e) ≡ each k (check_node plan s) → values {A = A} (Err e) ≡ check_state plan s
+    nodes_stop A e told = more A e _ _ (more A e _ _ (more A e _ _ (told ∙ sym (then_accepted _ _ so_far.passes)))) ∙ sym state_parts
 
     -- then the nodes are looked for among the marks
-    module _ (b : Answer) (q : b ≡ Accepted) (nodes : values b ≡ each k (check_node plan s)) (marks : List Bool) (marked : values b ≡ accepted → Marks plan s k marks) (a : Answer) (e : values a ≡ each (k - 1) (λ j. require (get_or marks j false) 4 at)) where
+    module _ (marks : List Bool) (nodes : values {A = List Bool} (Ok marks) ≡ each k (check_node plan s)) (mark : Marks plan s k marks) {A : Type 0} (a : Result A Refusal) (told : values a ≡ each (k - 1) (λ j. require (get_or marks j false) 4 at)) where
       three : values a ≡ tree_of plan s at k
       three =
-          let mark = marked (passed b _ q refl) in
-          e ∙ each_same _ _ (k - 1) (λ j h. rw (mark.mark j (omega (arith, nodes_between)))) ∙ sym (then_accepted _ _ (then_accepted _ _ so_far.passes ∙ passed _ _ q nodes))
+          told ∙ each_same _ _ (k - 1) (λ j h. rw (mark.mark j (omega (arith, nodes_between)))) ∙ sym (then_accepted _ _ (then_accepted _ _ so_far.passes ∙ passed marks _ nodes))
 
-      pub inputs_stop : (a ≡ Accepted → ⊥) → values a ≡ check_state plan s
-      inputs_stop t = stops _ _ _ t (stops _ _ _ t three) ∙ sym state_parts
+      pub inputs_stop : (e : Refusal) → a ≡ Err e → values a ≡ check_state plan s
+      inputs_stop e q = rw q (more A e _ _ (more A e _ _ (rw q at three))) ∙ sym state_parts
 
-      pub is_tree : a ≡ Accepted → tree_of plan s at k ≡ accepted
-      is_tree accepts = passed _ _ accepts three
+      pub is_tree : (x : A) → a ≡ Ok x → tree_of plan s at k ≡ accepted
+      is_tree x q = passed x _ (rw q at three)
 
     -- and where they are a tree, T is next
-    module _ (tree : tree_of plan s at k ≡ accepted) (a : Answer) (e : values a ≡ word_is plan 2 (at + 1 + 4 * k) (leb (word plan (at + 1 + 4 * k)) max_transitions)) where
-      pub transition_count_stops : (a ≡ Accepted → ⊥) → values a ≡ check_state plan s
-      transition_count_stops t = stops _ _ _ t (e ∙ sym (then_accepted _ _ tree)) ∙ sym state_parts
+    module _ (tree : tree_of plan s at k ≡ accepted) {A : Type 0} (a : Result A Refusal) (told : values a ≡ word_is plan 2 (at + 1 + 4 * k) (leb (word plan (at + 1 + 4 * k)) max_transitions)) where
+      pub transition_count_stops : (e : Refusal) → a ≡ Err e → values a ≡ check_state plan s
+      transition_count_stops e q = rw q (more A e _ _ (rw q at (told ∙ sym (then_accepted _ _ tree)))) ∙ sym state_parts
 
       first_transition_place : at + 1 + 4 * k + 1 ≡ condition_parameter_at plan s 0
       unfolding condition_parameter_at transition_count_at after_nodes
       first_transition_place = rw (so_far.count, place) (omega arith)
 
-      pub transitions_end : a ≡ Accepted → (n : ℕ) → n ≡ word plan (at + 1 + 4 * k) → (counts : Counts) → CountsOf plan counts
-          → (b : Answer) → values b ≡ each n (λ t. check_transition_at plan counts (at + 1 + 4 * k + 1 + 3 * t)) → values b ≡ check_state plan s
-      transitions_end q n is counts count b all =
-          (rw is at (all ∙ transitions_same plan s counts count n _ first_transition_place)) ∙ sym (then_accepted _ _ (then_accepted _ _ tree ∙ passed _ _ q e)) ∙ sym state_parts
+      pub transitions_end : (x : A) → a ≡ Ok x → (n : ℕ) → n ≡ word plan (at + 1 + 4 * k) → (counts : Counts) → CountsOf plan counts
+          → {B : Type 0} (b : Result B Refusal) → values b ≡ each n (λ t. check_transition_at plan counts (at + 1 + 4 * k + 1 + 3 * t)) → values b ≡ check_state plan s
+      transitions_end x q n is counts count b all =
+          (rw is at (all ∙ transitions_same plan s counts count n _ first_transition_place)) ∙ sym (then_accepted _ _ (then_accepted _ _ tree ∙ passed x _ (rw q at told))) ∙ sym state_parts
 
-pub transitions_few : (plan : List ℕ) (at n : ℕ) → n ≡ word plan at → (a : Answer) → a ≡ Accepted → values a ≡ word_is plan 2 at (leb (word plan at) max_transitions) → n ≤ max_transitions
-transitions_few plan at n is a q e = rw is (leb-true _ _ (word_true _ _ _ _ (passed _ _ q e)))
+pub transitions_few : {A : Type 0} (plan : List ℕ) (at n : ℕ) → n ≡ word plan at → (x : A) → values {A = A} (Ok x) ≡ word_is plan 2 at (leb (word plan at) max_transitions) → n ≤ max_transitions
+transitions_few plan at n is x told = rw is (leb-true _ _ (word_true _ _ _ _ (passed x _ told)))
 
 -- ---- all states
 

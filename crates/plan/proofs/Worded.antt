@@ -2,27 +2,25 @@
 use Prim.Native.Nat.{ℕ, ◌+◌, ◌*◌, ◌≤◌}
 use native.Mathlib.Nat.{mul-le-mul}
 use native.Mathlib.Omega.{arith}
-use mathlib.Core.Path.{◌≡◌, refl, sym, ◌∙◌}
+use mathlib.Core.Path.{◌≡◌, sym, ◌∙◌}
 use mathlib.Core.List.{List}
 use lib.ListN.{length}
 use Rattle.model.specs.declared.Refusal.{Refusal}
-use Rattle.model.specs.declared.Answer.TheVariants.{Accepted}
-use Rattle.plan.proofs.Laws.{never}
-use Rattle.model.specs.Answers.{Verdict, accepted, refused, values, ◌then◌}
+use Rattle.std.specs.Prelude.{Result, Ok, Err}
+use Rattle.std.specs.Result.{IsErrAnd}
+use Rattle.model.specs.Answers.{Verdict, accepted, values, ◌then◌}
+use Rattle.model.proofs.Laws.Exits.{leaves, more}
 use Rattle.model.specs.Text.{max_word}
 use Rattle.model.specs.Plan.{max_joints, max_clips, max_states, max_transitions, clip_count, state_count, sample_count_at, state_at, transition_count, transitions_before, samples_before, poses_at, numbers_length}
 use Rattle.model.specs.Check.{check_header, check}
-use Rattle.model.proofs.Laws.Answers.{then_left, then_right, then_accepted, then_refused, each_at}
+use Rattle.model.proofs.Laws.Answers.{then_left, then_right, then_accepted, each_at}
 use Rattle.model.proofs.Laws.State.{state_there, few_transitions}
 use Rattle.model.proofs.Laws.Totals.{total_most}
 use Rattle.model.proofs.Laws.Header as header
 use Rattle.layout.specs.declared.Layout.{Layout}
 use Rattle.layout.specs.Layout.{layout_of}
-use Rattle.plan.specs.declared.states.States.{States}
-use Rattle.plan.specs.declared.Checked.{Checked}
-use Rattle.plan.specs.declared.Checked.TheVariants.{Refused}
-use Rattle.plan.specs.Checked.{verdict, layout_in, PlanChecked}
-use Rattle.plan.specs.Parts.{check_words, WordsChecked, Worded, LengthsChecked}
+use Rattle.plan.specs.Checked.{PlanChecked}
+use Rattle.plan.specs.Parts.{check_words, Worded, LengthsChecked}
 
 module _ (plan : List ℕ) (ok : Worded plan) where
   header_passed : check_header plan ≡ accepted
@@ -54,18 +52,15 @@ numbers_counted plan l s e h = rw (h, e)
 
 -- ---- the parts of the check
 
--- where the words are refused, nothing is said of what stands beside the answer
-pub words_refuse : (plan : List ℕ) (r : States) → (r.answer ≡ Accepted → ⊥) → values r.answer ≡ check_words plan → WordsChecked plan r
-words_refuse plan r t e = record { answer = e; end = λ q. absurd (never r.answer t q); transitions = λ q. absurd (never r.answer t q) }
-
 module _ (plan : List ℕ) (n : ℕ) where
-  pub refused_by_words : (r : Refusal) → refused r.number r.place 0 ≡ check_words plan → PlanChecked plan n (Refused r)
-  unfolding check check_words verdict layout_in
-  refused_by_words r e = record { answer = sym (then_refused _ _ _ _ _ (then_refused _ _ _ _ _ (sym e))); layout = refl }
+  pub refused_by_words : (A : Type 0) (r : Result Layout Refusal) (e : Refusal) → IsErrAnd r (λ y. y ≡ e) → values {A = A} (Err e) ≡ check_words plan → PlanChecked plan n r
+  unfolding check check_words
+  refused_by_words A (Ok l) e exit told = absurd exit
+  refused_by_words A (Err y) e exit told = record { answer = leaves A (Err y) e _ exit (more A e _ _ (more A e _ _ told)); layout = tt }
 
   past : (u v w : Verdict) → u ≡ accepted → u then v then w ≡ v then w
   past u v w e = rw (then_accepted u v e)
 
-  pub left_to_lengths : (r : Checked) → Worded plan → LengthsChecked plan n r → PlanChecked plan n r
+  pub left_to_lengths : (r : Result Layout Refusal) → Worded plan → LengthsChecked plan n r → PlanChecked plan n r
   unfolding check check_words
   left_to_lengths r ok l = record { answer = l.answer ∙ sym (past _ _ _ ok); layout = l.layout }

@@ -1,16 +1,14 @@
 -- Verdicts of the check's parts that model does not name. Definitions only.
-use Rattle.std.specs.Prelude.{ℕ, ◌+◌, ◌<◌, ◌≡◌, Bool, true, false, cond, not, ◌&&◌, List, get_or, length, set, ltb, leb, eqb}
-use Rattle.model.specs.declared.Answer.{Answer}
+use Rattle.std.specs.Prelude.{ℕ, ◌+◌, ◌<◌, ◌≡◌, Bool, true, false, cond, not, ◌&&◌, List, get_or, length, set, ltb, leb, eqb, Result, IfOk}
+use Rattle.model.specs.declared.Refusal.{Refusal}
 use Rattle.model.specs.Answers.{Verdict, accepted, values, ◌then◌, each, require}
 use Rattle.model.specs.Plan.{max_nodes, max_clip_nodes, word, joint_count, clip_count, parameter_count, state_count, state_at, transitions_before, clip_nodes_before, plan_end, numbers_length}
 use Rattle.model.specs.Check.{word_is, used, check_header, check_parent, check_clip, check_node, check_state}
+use Rattle.layout.specs.declared.Layout.{Layout}
 use Rattle.layout.specs.Layout.{layout_of}
 use Rattle.plan.specs.declared.words.Counts.{Counts}
 use Rattle.plan.specs.declared.nodes.NodePlace.{NodePlace}
-use Rattle.plan.specs.declared.nodes.Nodes.{Nodes}
 use Rattle.plan.specs.declared.states.States.{States}
-use Rattle.plan.specs.declared.Checked.{Checked}
-use Rattle.plan.specs.Checked.{verdict, layout_in}
 
 -- these are the plan's counts
 pub record CountsOf (plan : List ℕ) (counts : Counts) : Type 0 where
@@ -76,19 +74,19 @@ pub record Marks (plan : List ℕ) (s i : ℕ) (marks : List Bool) : Type 0 wher
   pub mark : (k : ℕ) → k < max_nodes → get_or marks k false ≡ used plan s i k
 
 -- the first k nodes of the state that begins so, with their marks where all pass
-pub record NodesChecked (plan : List ℕ) (at n k : ℕ) (r : Nodes) : Type 0 where
-  pub answer : (s : ℕ) → Begins plan s at n → values r.answer ≡ each k (check_node plan s)
-  pub marks : (s : ℕ) → Begins plan s at n → values r.answer ≡ accepted → Marks plan s k r.used
+pub record NodesChecked (plan : List ℕ) (at n k : ℕ) (r : Result (List Bool) Refusal) : Type 0 where
+  pub answer : (s : ℕ) → Begins plan s at n → values r ≡ each k (check_node plan s)
+  pub marks : (s : ℕ) → Begins plan s at n → IfOk r (Marks plan s k)
 
 -- the state that begins so
-pub record StateChecked (plan : List ℕ) (at n : ℕ) (r : Answer) : Type 0 where
+pub record StateChecked (plan : List ℕ) (at n : ℕ) (r : Result Unit Refusal) : Type 0 where
   pub answer : (s : ℕ) → Begins plan s at n → values r ≡ check_state plan s
 
 -- the first n states, and, where all pass, the word after them and how many transitions they have
-pub record StatesChecked (plan : List ℕ) (n : ℕ) (r : States) : Type 0 where
-  pub answer : values r.answer ≡ each n (check_state plan)
-  pub end : values r.answer ≡ accepted → r.end ≡ state_at plan n
-  pub transitions : values r.answer ≡ accepted → r.transitions ≡ transitions_before plan n
+pub record StatesChecked (plan : List ℕ) (n : ℕ) (r : Result States Refusal) : Type 0 where
+  pub answer : values r ≡ each n (check_state plan)
+  pub end : IfOk r (λ states. states.end ≡ state_at plan n)
+  pub transitions : IfOk r (λ states. states.transitions ≡ transitions_before plan n)
 
 -- ---- the whole check
 
@@ -96,16 +94,16 @@ pub record StatesChecked (plan : List ℕ) (n : ℕ) (r : States) : Type 0 where
 unfoldable pub check_words : List ℕ → Verdict
 check_words plan = check_header plan then each (joint_count plan) (check_parent plan) then each (clip_count plan) (check_clip plan) then each (state_count plan) (check_state plan)
 
-pub record WordsChecked (plan : List ℕ) (r : States) : Type 0 where
-  pub answer : values r.answer ≡ check_words plan
-  pub end : values r.answer ≡ accepted → r.end ≡ plan_end plan
-  pub transitions : values r.answer ≡ accepted → r.transitions ≡ transitions_before plan (state_count plan)
+pub record WordsChecked (plan : List ℕ) (r : Result States Refusal) : Type 0 where
+  pub answer : values r ≡ check_words plan
+  pub end : IfOk r (λ states. states.end ≡ plan_end plan)
+  pub transitions : IfOk r (λ states. states.transitions ≡ transitions_before plan (state_count plan))
 
 -- a plan whose words pass
 abbrev pub Worded : List ℕ → Type 0
 Worded plan = check_words plan ≡ accepted
 
 -- refusals 6 and 7, for such a plan
-pub record LengthsChecked (plan : List ℕ) (n : ℕ) (r : Checked) : Type 0 where
-  pub answer : verdict r ≡ require (leb (length plan) (plan_end plan)) 6 (plan_end plan) then require (eqb n (numbers_length plan)) 7 0
-  pub layout : layout_in (layout_of plan) r ≡ layout_of plan
+pub record LengthsChecked (plan : List ℕ) (n : ℕ) (r : Result Layout Refusal) : Type 0 where
+  pub answer : values r ≡ require (leb (length plan) (plan_end plan)) 6 (plan_end plan) then require (eqb n (numbers_length plan)) 7 0
+  pub layout : IfOk r (λ layout. layout ≡ layout_of plan)

@@ -7,9 +7,9 @@ ghost use Rattle.plan.specs.Parts.{is_free, check_clip_node, check_blend_node, c
 ghost use Rattle.plan.specs.Parts.{CountsOf, HasInputs, NodesChecked};
 
 use crate::words::{Counts, word_below, word_is, word_up_to};
-use layout::{NODE_WORDS, word};
+use layout::{Kind, NODE_WORDS, word};
 use model::limits::{MAX_CLIP_NODES, MAX_NODES};
-use model::{Answer, refused};
+use model::{Answer, Reason, Refusal};
 
 // A mark for each node, and one more: a power of two of bytes is copied without overlap, which makes the whole check
 // twice as fast.
@@ -23,13 +23,6 @@ pub struct NodePlace {
     pub clip_node: usize,
 }
 
-// What the check of a state's nodes comes to: the answer, and the marks beside it.
-#[derive(Clone, Copy)]
-pub struct Nodes {
-    pub answer: Answer,
-    pub used: [bool; MARKS],
-}
-
 // The words after the kind of a clip node. One clip node too many is refused at its kind.
 fn check_clip_node(plan: &[u16], node: NodePlace, counts: Counts) -> Answer
     requires { node.at ≤ max_word }
@@ -37,17 +30,11 @@ fn check_clip_node(plan: &[u16], node: NodePlace, counts: Counts) -> Answer
 {
     let at = node.at;
     if node.clip_node >= MAX_CLIP_NODES {
-        return refused(2, at);
+        return Err(Reason::Count.at(at));
     }
-    let clip = word_below(plan, 4, at + 1, counts.clips);
-    let Answer::Accepted = clip else {
-        return clip;
-    };
-    let b = word_is(plan, 4, at + 2, word(plan, at + 2) == 0);
-    let Answer::Accepted = b else {
-        return b;
-    };
-    word_is(plan, 4, at + 3, word(plan, at + 3) == 0)
+    word_below(plan, Reason::Node, at + 1, counts.clips)?;
+    word_is(plan, Reason::Node, at + 2, word(plan, at + 2) == 0)?;
+    word_is(plan, Reason::Node, at + 3, word(plan, at + 3) == 0)
 }
 
 // An input of node i is an earlier node that is not one yet.
@@ -55,7 +42,7 @@ fn is_free(used: &[bool; MARKS], k: usize, i: usize) -> bool
     requires { i ≤ max_nodes }
     ensures { result ≡ is_free used.now i k }
 {
-    if k < i { !used[k] } else { false }
+    k < i && !used[k]
 }
 
 // The words after the kind of a lerp or additive node.
@@ -66,29 +53,25 @@ fn check_blend_node(plan: &[u16], node: NodePlace, counts: Counts, used: &[bool;
     let at = node.at;
     let a = word(plan, at + 1);
     let b = word(plan, at + 2);
-    let first = word_is(plan, 4, at + 1, is_free(used, a, node.i));
-    let Answer::Accepted = first else {
-        return first;
-    };
-    let second = word_is(plan, 4, at + 2, is_free(used, b, node.i) & (a != b));
-    let Answer::Accepted = second else {
-        return second;
-    };
-    word_below(plan, 4, at + 3, counts.parameters)
+    word_is(plan, Reason::Node, at + 1, is_free(used, a, node.i))?;
+    word_is(
+        plan,
+        Reason::Node,
+        at + 2,
+        is_free(used, b, node.i) & (a != b),
+    )?;
+    word_below(plan, Reason::Node, at + 3, counts.parameters)
 }
 
 fn check_node(plan: &[u16], node: NodePlace, counts: Counts, used: &[bool; MARKS]) -> Answer
     requires { (node.at ≤ max_word) × (node.i ≤ max_nodes) }
     ensures { values result ≡ check_node_at plan.now node counts used.now }
 {
-    let kind = word_up_to(plan, 4, node.at, 2);
-    let Answer::Accepted = kind else {
-        return kind;
-    };
-    if word(plan, node.at) == 0 {
-        return check_clip_node(plan, node, counts);
+    word_up_to(plan, Reason::Node, node.at, 2)?;
+    match Kind::from(word(plan, node.at)) {
+        Kind::Clip => check_clip_node(plan, node, counts),
+        Kind::Lerp | Kind::Additive => check_blend_node(plan, node, counts, used),
     }
-    check_blend_node(plan, node, counts, used)
 }
 
 // The marks after the node whose kind is the word `at`.
@@ -96,12 +79,14 @@ fn marked(plan: &[u16], at: usize, used: [bool; MARKS]) -> [bool; MARKS]
     requires { (at ≤ max_word) × HasInputs plan.now at }
     ensures { result ≡ marks_after plan.now at used }
 {
-    if word(plan, at) == 0 {
-        return used;
-    }
     let mut marks = used;
-    marks[word(plan, at + 1)] = true;
-    marks[word(plan, at + 2)] = true;
+    match Kind::from(word(plan, at)) {
+        Kind::Clip => {}
+        Kind::Lerp | Kind::Additive => {
+            marks[word(plan, at + 1)] = true;
+            marks[word(plan, at + 2)] = true;
+        }
+    }
     marks
 }
 
@@ -110,20 +95,20 @@ fn counted(plan: &[u16], at: usize, clip_node: usize) -> usize
     requires { clip_node ≤ max_word }
     ensures { result ≡ clip_node_after plan.now at clip_node }
 {
-    if word(plan, at) == 0 {
-        return clip_node + 1;
+    match Kind::from(word(plan, at)) {
+        Kind::Clip => clip_node + 1,
+        Kind::Lerp | Kind::Additive => clip_node,
     }
-    clip_node
 }
 
-// The first n nodes of the state whose K is the word `at`.
+// The first n nodes of the state whose K is the word `at`, and their marks.
 pub fn check_nodes(
     plan: &[u16],
     at: usize,
     n: usize,
     counts: Counts,
     first_clip_node: usize,
-) -> Nodes
+) -> Result<[bool; MARKS], Refusal>
     requires { (at + 1 + 4 * n ≤ max_word)
         × (n ≤ max_nodes)
         × (first_clip_node ≤ max_plan)
@@ -132,28 +117,17 @@ pub fn check_nodes(
 {
     let mut used = [false; MARKS];
     let mut clip_node = first_clip_node;
-    let mut i = 0;
-    while i < n {
+    for i in 0..n {
         let node = NodePlace {
-            i: i,
+            i,
             at: at + 1 + NODE_WORDS * i,
-            clip_node: clip_node,
+            clip_node,
         };
-        let answer = check_node(plan, node, counts, &used);
-        let Answer::Accepted = answer else {
-            return Nodes {
-                answer: answer,
-                used: used,
-            };
-        };
+        check_node(plan, node, counts, &used)?;
         used = marked(plan, node.at, used);
         clip_node = counted(plan, node.at, clip_node);
-        i += 1;
     }
-    Nodes {
-        answer: Answer::Accepted,
-        used: used,
-    }
+    Ok(used)
 }
 
 // The first n nodes are inputs; else the refusal is at the place of K.
@@ -161,12 +135,10 @@ pub fn check_used(used: [bool; MARKS], n: usize, place: usize) -> Answer
     requires { n ≤ max_nodes }
     ensures { values result ≡ each n (λ k. require (get_or used k false) 4 place) }
 {
-    let mut k = 0;
-    while k < n {
+    for k in 0..n {
         if !used[k] {
-            return refused(4, place);
+            return Err(Reason::Node.at(place));
         }
-        k += 1;
     }
-    Answer::Accepted
+    Ok(())
 }

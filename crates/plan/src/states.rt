@@ -8,14 +8,12 @@ ghost use Rattle.plan.specs.Parts.{CountsOf, check_transition_at, StateChecked, 
 use crate::nodes::{check_nodes, check_used};
 use crate::words::{Counts, word_below, word_up_to, word_within};
 use layout::{NODE_WORDS, TRANSITION_WORDS, word};
-use model::Answer;
 use model::limits::{MAX_NODES, MAX_TRANSITIONS};
+use model::{Answer, Reason, Refusal};
 
-// What the check of all states comes to: the answer, and beside it the word after the last state and the count of
-// transitions.
+// What the check of all states finds: the word after the last state, and the count of transitions.
 #[derive(Clone, Copy)]
 pub struct States {
-    pub answer: Answer,
     pub end: usize,
     pub transitions: usize,
 }
@@ -25,15 +23,9 @@ fn check_transition(plan: &[u16], at: usize, counts: Counts) -> Answer
     requires { at ≤ max_word }
     ensures { values result ≡ check_transition_at plan.now counts at }
 {
-    let parameter = word_below(plan, 5, at, counts.parameters);
-    let Answer::Accepted = parameter else {
-        return parameter;
-    };
-    let operator = word_up_to(plan, 5, at + 1, 5);
-    let Answer::Accepted = operator else {
-        return operator;
-    };
-    word_below(plan, 5, at + 2, counts.states)
+    word_below(plan, Reason::Transition, at, counts.parameters)?;
+    word_up_to(plan, Reason::Transition, at + 1, 5)?;
+    word_below(plan, Reason::Transition, at + 2, counts.states)
 }
 
 // The first n of those that begin at `from`.
@@ -41,15 +33,10 @@ fn check_transitions(plan: &[u16], from: usize, n: usize, counts: Counts) -> Ans
     requires { from + 3 * n ≤ max_word }
     ensures { values result ≡ each n (λ t. check_transition_at plan.now counts (from + 3 * t)) }
 {
-    let mut t = 0;
-    while t < n {
-        let transition = check_transition(plan, from + TRANSITION_WORDS * t, counts);
-        let Answer::Accepted = transition else {
-            return transition;
-        };
-        t += 1;
+    for t in 0..n {
+        check_transition(plan, from + TRANSITION_WORDS * t, counts)?;
     }
-    Answer::Accepted
+    Ok(())
 }
 
 // The state whose K is the word `at`, with its first clip node's number.
@@ -57,32 +44,18 @@ fn check_state(plan: &[u16], at: usize, counts: Counts, clip_node: usize) -> Ans
     requires { (at ≤ max_plan) × (clip_node ≤ max_plan) × CountsOf plan.now counts }
     ensures { StateChecked plan.now at clip_node result }
 {
-    let count = word_within(plan, 2, at, 1, MAX_NODES);
-    let Answer::Accepted = count else {
-        return count;
-    };
+    word_within(plan, Reason::Count, at, 1, MAX_NODES)?;
     let nodes = word(plan, at);
-    let tree = check_nodes(plan, at, nodes, counts, clip_node);
-    let each_node = tree.answer;
-    let Answer::Accepted = each_node else {
-        return each_node;
-    };
-    let marks = tree.used;
-    let used = check_used(marks, nodes - 1, at);
-    let Answer::Accepted = used else {
-        return used;
-    };
+    let used = check_nodes(plan, at, nodes, counts, clip_node)?;
+    check_used(used, nodes - 1, at)?;
     let transitions_at = at + 1 + NODE_WORDS * nodes;
-    let transitions = word_up_to(plan, 2, transitions_at, MAX_TRANSITIONS);
-    let Answer::Accepted = transitions else {
-        return transitions;
-    };
+    word_up_to(plan, Reason::Count, transitions_at, MAX_TRANSITIONS)?;
     let n = word(plan, transitions_at);
     check_transitions(plan, transitions_at + 1, n, counts)
 }
 
 // All states, the first of which begins at `from`.
-pub fn check_states(plan: &[u16], from: usize, counts: Counts) -> States
+pub fn check_states(plan: &[u16], from: usize, counts: Counts) -> Result<States, Refusal>
     requires { (from ≤ max_states_at)
         × (from ≡ state_at plan.now 0)
         × CountsOf plan.now counts
@@ -93,16 +66,8 @@ pub fn check_states(plan: &[u16], from: usize, counts: Counts) -> States
     let mut at = from;
     let mut clip_node = 0;
     let mut transitions = 0;
-    let mut s = 0;
-    while s < states {
-        let state = check_state(plan, at, counts, clip_node);
-        let Answer::Accepted = state else {
-            return States {
-                answer: state,
-                end: at,
-                transitions: transitions,
-            };
-        };
+    for s in 0..states {
+        check_state(plan, at, counts, clip_node)?;
         // (K + 1) / 2 of its K nodes are clips: model's Laws/Trees has why.
         let nodes = word(plan, at);
         let transitions_at = at + 1 + NODE_WORDS * nodes;
@@ -110,11 +75,9 @@ pub fn check_states(plan: &[u16], from: usize, counts: Counts) -> States
         clip_node += (nodes + 1) / 2;
         transitions += n;
         at = transitions_at + 1 + TRANSITION_WORDS * n;
-        s += 1;
     }
-    States {
-        answer: Answer::Accepted,
+    Ok(States {
         end: at,
-        transitions: transitions,
-    }
+        transitions,
+    })
 }

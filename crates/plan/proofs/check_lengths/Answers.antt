@@ -1,16 +1,14 @@
 -- `plan::check_lengths` meets its contract: both tests of the definition; the counts are small, so nothing overflows. Assumes nothing.
 use borrow.Author.Tests.{lt-leb, le-leb, eq-eqb, ne_eqb}
 use native.Mathlib.Omega.{arith}
-use mathlib.Core.Path.{refl}
-use Rattle.model.specs.Answers.{◌then◌, require}
+use Rattle.model.specs.Answers.{values, ◌then◌, require}
 use Rattle.layout.proofs.Laws.{joints_found, clips_found}
-use Rattle.plan.specs.Checked.{verdict, layout_in}
 use Rattle.plan.proofs.Worded.{clips_there, layout_small, product_small, numbers_counted}
 use Rattle.plan.proofs.check_lengths.Goals as goal
 
 pub returns-then-end-plan : goal.returns-then-end-plan
-unfolding verdict layout_in ◌then◌ require
-returns-then-end-plan c = record { answer = rw (← c.requires.1, lt-leb _ _ c.if-end-plan.true); layout = refl }
+unfolding values ◌then◌ require
+returns-then-end-plan c = record { answer = rw (c.at.ensures, ← c.requires.1, lt-leb _ _ c.if-end-plan.true); layout = tt }
 
 pub samples_before-samples-requires : goal.samples_before-samples-requires
 samples_before-samples-requires c =
@@ -33,12 +31,12 @@ overflow_add-layout c =
     omega (arith, product_small _ ok _ c.laid_out-layout.ensures _ c.samples_before-samples.ensures.1, layout_small _ ok _ c.laid_out-layout.ensures)
 
 pub returns-then-numbers-layout : goal.returns-then-numbers-layout
-unfolding verdict layout_in ◌then◌ require
+unfolding values ◌then◌ require
 returns-then-numbers-layout c =
-    record { answer = rw (← c.requires.1, le-leb _ _ c.if-end-plan.false, ← numbers_counted _ _ _ c.laid_out-layout.ensures c.samples_before-samples.ensures.0, ne_eqb _ _ c.if-numbers-layout.true); layout = refl }
+    record { answer = rw (c.at-then-numbers-layout.ensures, ← c.requires.1, le-leb _ _ c.if-end-plan.false, ← numbers_counted _ _ _ c.laid_out-layout.ensures c.samples_before-samples.ensures.0, ne_eqb _ _ c.if-numbers-layout.true); layout = tt }
 
 pub returns : goal.returns
-unfolding verdict layout_in ◌then◌ require
+unfolding values ◌then◌ require
 returns c =
     record { answer = rw (← c.requires.1, le-leb _ _ c.if-end-plan.false, ← numbers_counted _ _ _ c.laid_out-layout.ensures c.samples_before-samples.ensures.0, eq-eqb _ _ c.if-numbers-layout.false); layout = c.laid_out-layout.ensures }
 

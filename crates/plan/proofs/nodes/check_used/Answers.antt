@@ -1,13 +1,14 @@
 -- `plan::nodes::check_used` meets its contract. Invariant: the first k nodes are inputs. Assumes nothing.
-use mathlib.Core.Path.{◌∙◌}
+use Rattle.model.specs.Answers.{values}
 use Rattle.plan.proofs.Laws.{passing_none, passing_all}
 use Rattle.plan.proofs.NodeLaws.{used_next, unused_stops}
 use Rattle.plan.proofs.nodes.check_used.Goals as goal
 
 pub returns-then-not-used-k : goal.returns-then-not-used-k
+unfolding values
 returns-then-not-used-k c =
     let a = c.args in
-    c.refused.ensures ∙ unused_stops a.used a.place c.loop-k.invariant c.loop-k-test.true c.if-not-used-k.true
+    rw c.at.ensures (unused_stops a.used a.place c.loop-k.invariant c.loop-k-test.true c.if-not-used-k.true)
 
 pub loop-k-preserved : goal.loop-k-preserved
 loop-k-preserved c =
@@ -18,4 +19,4 @@ pub loop-k-init : goal.loop-k-init
 loop-k-init c = passing_none _ _
 
 pub returns : goal.returns
-returns c = passing_all c.loop-k.invariant c.loop-k-test.false
+returns c = passing_all c.loop-k.invariant _ c.loop-k-test.false

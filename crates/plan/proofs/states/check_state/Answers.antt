@@ -1,55 +1,56 @@
--- `plan::states::check_state` meets its contract: K, the nodes, that they are inputs, T and the transitions, in the definition's order. Assumes nothing.
-use Prim.Native.Nat.{ℕ}
+-- `plan::states::check_state` meets its contract: the parts of a state in the definition's order. Assumes nothing.
 use native.Mathlib.Omega.{arith}
-use mathlib.Core.Path.{◌≡◌}
+use mathlib.Core.Path.{◌≡◌, refl}
+use Prim.Native.Nat.{ℕ}
 use Rattle.model.specs.Answers.{accepted}
+use Rattle.model.proofs.Laws.Exits.{leaves}
 use Rattle.plan.specs.Parts.{Begins}
 use Rattle.plan.proofs.StateLaws.{tree_of, count_stops, Counted, is_counted, nodes_between, nodes_stop, inputs_stop, is_tree, transition_count_stops, transitions_few, transitions_end}
 use Rattle.plan.proofs.states.check_state.Goals as goal
-use Rattle.plan.proofs.states.check_state.Goals.{After-word-nodes, In-Accepted-used}
+use Rattle.plan.proofs.states.check_state.Goals.{After-word-nodes, In_ok-check_used}
 
-pub returns-in_default : goal.returns-in_default
-returns-in_default c = record { answer = λ s b. count_stops _ _ _ b.place _ c.word_within-count.ensures c.in_default.not-Accepted }
+pub returns-in_err-word_within : goal.returns-in_err-word_within
+returns-in_err-word_within c = record { answer = λ s b. leaves _ _ _ _ c.from_residual.ensures.1 (count_stops _ _ _ b.place _ _ c.in_err-word_within.ensures) }
 
 counted : (c : After-word-nodes) → let a = c.args in Counted a.plan.now a.at c.word-nodes.result
-counted c = is_counted _ _ _ c.word-nodes.ensures.0 _ c.in-Accepted.is c.word_within-count.ensures
+counted c = is_counted _ _ _ c.word-nodes.ensures.0 _ c.in_ok-word_within.ensures
 
-pub check_nodes-tree-requires : goal.check_nodes-tree-requires
-check_nodes-tree-requires c =
+pub check_nodes-requires : goal.check_nodes-requires
+check_nodes-requires c =
     let pre = c.requires in
-    let between = nodes_between (counted (goal.at.check_nodes-tree-requires c).After-word-nodes) in
+    let between = nodes_between (counted (goal.at.check_nodes-requires c).After-word-nodes) in
     (omega (arith, pre.0, between), between.1, pre.1, pre.2)
 
-pub returns-in_default-each_node : goal.returns-in_default-each_node
-returns-in_default-each_node c =
-    record { answer = λ s b. nodes_stop (counted (goal.at.returns-in_default-each_node c).After-word-nodes) _ b.place _ (c.check_nodes-tree.ensures.answer s b) c.in_default-each_node.not-Accepted }
+pub returns-in_err-used : goal.returns-in_err-used
+returns-in_err-used c =
+    record { answer = λ s b. leaves _ _ _ _ c.from_residual-in_err-used.ensures.1 (nodes_stop (counted (goal.at.returns-in_err-used c).After-word-nodes) _ b.place _ _ (c.in_err-used.ensures.answer s b)) }
 
 pub overflow_sub-nodes : goal.overflow_sub-nodes
 overflow_sub-nodes c = omega (arith, nodes_between (counted (goal.at.overflow_sub-nodes c).After-word-nodes))
 
-pub check_used-used-requires : goal.check_used-used-requires
-check_used-used-requires c = omega (arith, nodes_between (counted (goal.at.check_used-used-requires c).After-word-nodes))
+pub check_used-requires : goal.check_used-requires
+check_used-requires c = omega (arith, nodes_between (counted (goal.at.check_used-requires c).After-word-nodes))
 
-pub returns-in_default-used : goal.returns-in_default-used
-returns-in_default-used c =
-    let nodes = c.check_nodes-tree.ensures in
-    record { answer = λ s b. inputs_stop (counted (goal.at.returns-in_default-used c).After-word-nodes) _ b.place _ c.in-Accepted-each_node.is (nodes.answer s b) _ (nodes.marks s b) _ c.check_used-used.ensures c.in_default-used.not-Accepted }
+pub returns-in_err-check_used : goal.returns-in_err-check_used
+returns-in_err-check_used c =
+    let nodes = c.in_ok-used.ensures in
+    record { answer = λ s b. leaves _ _ _ _ c.from_residual-in_err-check_used.ensures.1 (inputs_stop (counted (goal.at.returns-in_err-check_used c).After-word-nodes) _ b.place _ (nodes.answer s b) (nodes.marks s b) _ c.in_err-check_used.ensures _ refl) }
 
-tree : (c : In-Accepted-used) (s : ℕ) → let a = c.args in Begins a.plan.now s a.at a.clip_node → tree_of a.plan.now s a.at c.word-nodes.result ≡ accepted
+tree : (c : In_ok-check_used) (s : ℕ) → let a = c.args in Begins a.plan.now s a.at a.clip_node → tree_of a.plan.now s a.at c.word-nodes.result ≡ accepted
 tree c s b =
-    let nodes = c.check_nodes-tree.ensures in
-    is_tree (is_counted _ _ _ c.word-nodes.ensures.0 _ c.in-Accepted.is c.word_within-count.ensures) _ b.place _ c.in-Accepted-each_node.is (nodes.answer s b) _ (nodes.marks s b) _ c.check_used-used.ensures c.in-Accepted-used.is
+    let nodes = c.in_ok-used.ensures in
+    is_tree (is_counted _ _ _ c.word-nodes.ensures.0 _ c.in_ok-word_within.ensures) _ b.place _ (nodes.answer s b) (nodes.marks s b) _ c.in_ok-check_used.ensures _ refl
 
-pub returns-in_default-transitions : goal.returns-in_default-transitions
-returns-in_default-transitions c =
-    record { answer = λ s b. transition_count_stops (counted ((goal.at.returns-in_default-transitions c).After-word-nodes)) _ b.place (tree (goal.at.returns-in_default-transitions c).In-Accepted-used s b) _ c.word_up_to-transitions.ensures c.in_default-transitions.not-Accepted }
+pub returns-in_err-word_up_to : goal.returns-in_err-word_up_to
+returns-in_err-word_up_to c =
+    record { answer = λ s b. leaves _ _ _ _ c.from_residual-in_err-word_up_to.ensures.1 (transition_count_stops (counted (goal.at.returns-in_err-word_up_to c).After-word-nodes) _ b.place (tree (goal.at.returns-in_err-word_up_to c).In_ok-check_used s b) _ c.in_err-word_up_to.ensures _ refl) }
 
 pub check_transitions-requires : goal.check_transitions-requires
 check_transitions-requires c =
     let w = (goal.at.check_transitions-requires c).After-word-nodes in
-    omega (arith, c.requires.0, nodes_between (counted w), transitions_few _ _ _ c.word-n.ensures.0 _ c.in-Accepted-transitions.is c.word_up_to-transitions.ensures)
+    omega (arith, c.requires.0, nodes_between (counted w), transitions_few _ _ _ c.word-n.ensures.0 _ c.in_ok-word_up_to.ensures)
 
 pub returns : goal.returns
 returns c =
     let k = (goal.at.returns c).After-word-nodes in
-    record { answer = λ s b. transitions_end (counted k) _ b.place (tree (goal.at.returns c).In-Accepted-used s b) _ c.word_up_to-transitions.ensures c.in-Accepted-transitions.is _ c.word-n.ensures.0 _ c.requires.2 _ c.check_transitions.ensures }
+    record { answer = λ s b. transitions_end (counted k) _ b.place (tree (goal.at.returns c).In_ok-check_used s b) _ c.in_ok-word_up_to.ensures _ refl _ c.word-n.ensures.0 _ c.requires.2 _ c.check_transitions.ensures }

@@ -1,19 +1,17 @@
 -- `plan::states::check_transition` meets its contract: three words in the definition's order. Assumes nothing.
+use Rattle.model.proofs.Laws.Exits.{leaves, more, goes}
 use Rattle.plan.specs.Parts.{check_transition_at}
-use Rattle.plan.proofs.Laws.{stops, goes}
 use Rattle.plan.proofs.states.check_transition.Goals as goal
 
-pub returns-in_default : goal.returns-in_default
+pub returns-in_err-word_below : goal.returns-in_err-word_below
 unfolding check_transition_at
-returns-in_default c = let t = c.in_default.not-Accepted in stops _ _ _ t (stops _ _ _ t c.word_below-parameter.ensures)
+returns-in_err-word_below c = leaves _ _ _ _ c.from_residual.ensures.1 (more _ _ _ _ (more _ _ _ _ c.in_err-word_below.ensures))
 
-pub returns-in_default-operator : goal.returns-in_default-operator
+pub returns-in_err-word_up_to : goal.returns-in_err-word_up_to
 unfolding check_transition_at
-returns-in_default-operator c =
-    stops _ _ _ c.in_default-operator.not-Accepted (goes _ _ _ _ c.in-Accepted.is c.word_below-parameter.ensures c.word_up_to-operator.ensures)
+returns-in_err-word_up_to c =
+    leaves _ _ _ _ c.from_residual-in_err-word_up_to.ensures.1 (more _ _ _ _ (goes _ _ _ _ c.in_ok-word_below.ensures c.in_err-word_up_to.ensures))
 
 pub returns : goal.returns
 unfolding check_transition_at
-returns c =
-    let two = goes _ _ _ _ c.in-Accepted.is c.word_below-parameter.ensures c.word_up_to-operator.ensures in
-    goes _ _ _ _ c.in-Accepted-operator.is two c.word_below.ensures
+returns c = goes _ _ _ _ (goes _ _ _ _ c.in_ok-word_below.ensures c.in_ok-word_up_to.ensures) c.word_below-2.ensures

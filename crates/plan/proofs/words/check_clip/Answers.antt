@@ -3,7 +3,7 @@ use native.Mathlib.Omega.{arith}
 use mathlib.Core.Path.{◌≡◌, ◌∙◌}
 use Rattle.model.specs.Plan.{sample_count_at, sample_count, ending_at, ending}
 use Rattle.model.specs.Check.{check_clip}
-use Rattle.plan.proofs.Laws.{stops, goes}
+use Rattle.model.proofs.Laws.Exits.{leaves, more, goes}
 use Rattle.plan.proofs.words.check_clip.Goals as goal
 use Rattle.plan.proofs.words.check_clip.Goals.{After-sample_count_at-at}
 
@@ -15,11 +15,13 @@ pub overflow_add-ending_at : goal.overflow_add-ending_at
 unfolding sample_count_at
 overflow_add-ending_at c = omega (arith, place c, c.requires.0, c.requires.1, c.requires.2)
 
-pub returns-in_default : goal.returns-in_default
+pub returns-in_err-word_within : goal.returns-in_err-word_within
 unfolding check_clip sample_count
-returns-in_default c = stops _ _ _ c.in_default.not-Accepted (c.word_within-count.ensures ∙ rw (place (goal.at.returns-in_default c).After-sample_count_at-at))
+returns-in_err-word_within c =
+    leaves _ _ _ _ c.from_residual.ensures.1 (more _ _ _ _ (c.in_err-word_within.ensures ∙ rw (place (goal.at.returns-in_err-word_within c).After-sample_count_at-at)))
 
 pub returns : goal.returns
 unfolding check_clip sample_count ending ending_at
 returns c =
-    goes _ _ _ _ c.in-Accepted.is (c.word_within-count.ensures ∙ rw (place (goal.at.returns c).After-sample_count_at-at)) (c.word_within.ensures ∙ rw (place (goal.at.returns c).After-sample_count_at-at))
+    let at = place (goal.at.returns c).After-sample_count_at-at in
+    goes _ _ _ _ (c.in_ok-word_within.ensures ∙ rw at) (c.word_within-2.ensures ∙ rw at)

@@ -3,10 +3,10 @@ use borrow.Author.Tests.{lt-leb, le-leb}
 use Rattle.model.specs.Check.{within}
 use Rattle.plan.proofs.words.within.Goals as goal
 
-pub returns-then-x-low : goal.returns-then-x-low
+pub returns-then-low-x : goal.returns-then-low-x
 unfolding within
-returns-then-x-low c = rw (lt-leb _ _ c.if-x-low.true)
+returns-then-low-x c = rw (le-leb _ _ c.if-low-x.true)
 
-pub returns-else-x-low : goal.returns-else-x-low
+pub returns-else-low-x : goal.returns-else-low-x
 unfolding within
-returns-else-x-low c = rw (le-leb _ _ c.if-x-low.false)
+returns-else-low-x c = rw (lt-leb _ _ c.if-low-x.false)
