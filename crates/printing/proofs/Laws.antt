@@ -34,13 +34,14 @@ more_written {p = p} {text = text} {more = more} a b = record {
   same = b.same ∙ a.same;
 }
 
--- a text from the first byte on
-pub front_written : {p q : Writer} {text : List ℕ} → Wrote text p q → p.at ≡ 0 → q.at ≤ length p.out.now → Front text p.out.now q.out.now q.at
+-- a text from the first byte on, in a slice that was lent to a writer: what it held before, and what it holds after
+pub front_written : {p q : Writer} {text before after : List ℕ} → Wrote text p q → p.out.now ≡ before → p.at ≡ 0
+    → q.at ≤ length before → after ≡ q.out.now → Front text before after q.at
 unfolding overwritten
-front_written {p = p} {text = text} w first room = record {
+front_written {text = text} {before = before} w held first room same = record {
   ended = omega arith;
-  inside = omega arith;
-  whole = rw (w.stored, first, sets-eq text p.out.now 0 (omega arith), zero-add) refl;
+  inside = omega (arith, ap length same, ap length held);
+  whole = rw (same, w.stored, held, first, sets-eq text before 0 (omega arith), zero-add) refl;
 }
 
 -- what was put over the front of a list
