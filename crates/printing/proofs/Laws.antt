@@ -143,9 +143,9 @@ two_decimals : (m n : ℕ) → decimal_fields (m ∷ n ∷ []) ≡ decimal_field
 unfolding decimal_fields
 two_decimals m n = ap (λ (text : List ℕ). comma ∷ text ++ decimal_fields (n ∷ [])) (sym (append-nil (decimal_text m)))
 
-pub decimals_written : {p q r : Writer} (m n : ℕ) → Wrote (decimal_fields (m ∷ [])) p q → Wrote (decimal_fields (n ∷ [])) q r
-    → Wrote (decimal_fields (m ∷ n ∷ [])) p r
-decimals_written m n a b = rw (two_decimals m n) (more_written a b)
+pub decimals_written : {p q r : Writer} (m n : ℕ) {k : ℕ} → k ≡ m → Wrote (decimal_fields (k ∷ [])) p q
+    → Wrote (decimal_fields (n ∷ [])) q r → Wrote (decimal_fields (m ∷ n ∷ [])) p r
+decimals_written m n e a b = rw (two_decimals m n) (more_written (rw e at a) b)
 
 -- of as many floats as a matrix has, from joint j's place on
 pub matrix_written : {p q : Writer} (j : ℕ) (output : List Float) {n : ℕ} → n ≡ matrix_floats

@@ -7,5 +7,5 @@ use Rattle.printing.proofs.Writer.put_refusal.Goals as goal
 pub returns : goal.returns
 unfolding refused_line
 returns c =
-    let fields = decimals_written _ _ (rw c.number.ensures at c.put_decimal.ensures.0) c.put_decimal-2.ensures.0 in
+    let fields = decimals_written _ _ c.number.ensures c.put_decimal.ensures.0 c.put_decimal-2.ensures.0 in
     (more_written (more_written c.put_bytes.ensures fields) c.put_bytes-2.ensures, omega arith)
