@@ -2,6 +2,7 @@
 use Prim.Native.Nat.{ℕ, ◌≤◌, ◌<◌}
 use native.Mathlib.Omega.{arith}
 use mathlib.Core.Path.{◌≡◌, refl, sym, ap, ◌∙◌}
+use mathlib.Core.Logic.{◌⊎◌, inl, inr}
 use mathlib.Core.Bool.{Bool, true, false, cond}
 use mathlib.Core.List.{List}
 use lib.Dec.{eqb}
@@ -12,6 +13,7 @@ use Rattle.model.proofs.Laws.State.{a_earlier, b_earlier, clip_below, parameter_
 use Rattle.model.proofs.Laws.Passed.{few_parameters}
 use Rattle.layout.specs.declared.StateLayout.{StateLayout}
 use Rattle.layout.specs.Kinds.{kind_of}
+use Rattle.layout.specs.declared.Kind.{Kind}
 use Rattle.layout.specs.declared.Kind.TheVariants as kind
 use Rattle.layout.specs.declared.Node.{Node}
 use Rattle.layout.specs.declared.Condition.{Condition}
@@ -36,6 +38,14 @@ other_number k h = go (eqb k 0) h
     go : (zero : Bool) → (cond zero kind.Clip (cond (eqb k 1) kind.Lerp kind.Additive) ≡ kind.Clip → ⊥) → zero ≡ false
     go true h = absurd (h refl)
     go false h = refl
+
+-- the same of a kind that was made from a word
+pub clip_word : (k : ℕ) (x : Kind) → x ≡ kind_of k → x ≡ kind.Clip → eqb k 0 ≡ true
+clip_word k x e h = clip_number k (sym e ∙ h)
+
+pub blend_word : (k : ℕ) (x : Kind) → x ≡ kind_of k → (x ≡ kind.Lerp) ⊎ (x ≡ kind.Additive) → eqb k 0 ≡ false
+blend_word k x e (inl h) = other_number k (λ q. let z : kind.Clip ≡ kind.Lerp = sym q ∙ sym e ∙ h in absurd cc)
+blend_word k x e (inr h) = other_number k (λ q. let z : kind.Clip ≡ kind.Additive = sym q ∙ sym e ∙ h in absurd cc)
 
 lerp_number : (k : ℕ) → kind_of k ≡ kind.Lerp → eqb k 1 ≡ true
 unfolding kind_of
