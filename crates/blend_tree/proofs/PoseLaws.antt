@@ -3,12 +3,13 @@
 use Prim.Native.Nat.{ℕ, suc, ◌+◌, ◌-◌, ◌≤◌, ◌<◌}
 use native.Mathlib.Omega.{arith}
 use mathlib.Core.Path.{◌≡◌, refl, sym, ◌∙◌}
+use mathlib.Core.Bool.{true}
 use mathlib.Core.List.{List}
 use lib.ListN.{get_or}
 use lib.Ieee.{Float}
 use Rattle.model.specs.declared.Pose.{Pose}
 use Rattle.model.specs.declared.ClipInstance.{ClipInstance}
-use Rattle.model.specs.Plan.{clip_node_at}
+use Rattle.model.specs.Plan.{is_clip, clip_node_at}
 use Rattle.model.specs.Pose.{identity_pose, lerp}
 use Rattle.model.specs.Clips.{local_time, instance_at, clip_pose}
 use Rattle.model.specs.Tree.{parameter, additive, node_pose, node_poses, state_pose}
@@ -21,9 +22,9 @@ use Rattle.layout.specs.Layout.{node_of}
 use Rattle.layout.proofs.Laws.{here_ok, nodes_counted}
 use Rattle.lanes.specs.Lanes.{block_size, lane_at, LaneSet}
 use Rattle.lanes.proofs.Laws.{done_more, rest_less}
-use Rattle.blend_tree.specs.declared.Source.{Source}
-use Rattle.blend_tree.specs.Blocks.{pose_of_node, node_pose_at, state_pose_at}
-use Rattle.layout.proofs.NodeLaws.{NodeRead, is_clip_lem, no_clip, is_lerp_lem, no_lerp, inputs_before}
+use Rattle.blend_tree.specs.declared.StateAt.{StateAt}
+use Rattle.blend_tree.specs.Blocks.{pose_of_node}
+use Rattle.layout.proofs.NodeLaws.{NodeRead, no_clip, is_lerp_lem, no_lerp, inputs_before}
 use Rattle.blend_tree.proofs.NodeLaws.{passes}
 
 -- ---- a loop that combines x's lanes with y's, one by one
@@ -60,10 +61,10 @@ module _ {plan : List ℕ} {here : StateLayout} {i : ℕ} {words : Node} (r : No
     unfolding node_poses
     input n h = table_at (node_pose plan numbers parameters time here.state instances j) i identity_pose n h ∙ sym (by_table n)
 
-    pub of_clip : {instance : ClipInstance} → words.kind ≡ kind.Clip → instance ≡ instance_at instances (clip_node_at plan here.state i)
+    pub of_clip : {instance : ClipInstance} → is_clip plan here.state i ≡ true → instance ≡ instance_at instances (clip_node_at plan here.state i)
         → clip_pose plan numbers words.a j (local_time instance time) ≡ pose_of i
     unfolding node_of node_pose
-    of_clip e ei = rw (by_table i, is_clip_lem plan here.state i r.found e, r.found, ei)
+    of_clip e ei = rw (by_table i, e, r.found, ei)
 
     -- a lerp, or an additive node
     module _ {x y : Pose} (ex : x ≡ pose_of words.a) (ey : y ≡ pose_of words.b) where
@@ -83,12 +84,13 @@ module _ {plan : List ℕ} {here : StateLayout} {i : ℕ} {words : Node} (r : No
 
 -- ---- the root
 
-module _ (from : Source) where
-  pub root_there : 0 < from.state.here.nodes
-  root_there = rw (nodes_counted from.state.place) (some_nodes from.state.figure.plan.words.now from.state.here.state (here_ok from.state.place (passes from.state)))
+module _ (at : StateAt) where
+  pub root_there : 0 < at.here.nodes
+  root_there = rw (nodes_counted at.place) (some_nodes at.figure.plan.words.now at.here.state (here_ok at.place (passes at)))
 
-  pub root_pose : (j : ℕ) → node_pose_at from (from.state.here.nodes - 1) j ≡ state_pose_at from j
+  pub root_pose : (parameters instances : List Float) (j : ℕ) → pose_of_node at.figure.plan.words.now at.figure.numbers.now parameters at.time at.here.state instances (at.here.nodes - 1) j
+      ≡ state_pose at.figure.plan.words.now at.figure.numbers.now parameters at.time at.here.state instances j
   unfolding state_pose
-  root_pose j =
-      let e : suc (from.state.here.nodes - 1) ≡ from.state.here.nodes = omega (arith, root_there) in
-      rw (e, nodes_counted from.state.place)
+  root_pose parameters instances j =
+      let e : suc (at.here.nodes - 1) ≡ at.here.nodes = omega (arith, root_there) in
+      rw (e, nodes_counted at.place)

@@ -36,7 +36,7 @@ returns-in-Clip t c j h =
     let from = c.args.self.now in
     let at = from.state in
     c.clip_poses.ensures j h
-    ∙ of_clip (read t (goal.at.returns-in-Clip t c).After-node-words) at.figure.numbers.now from.parameters.now at.time from.instances.now (c.args.joints.first + j) c.in-Clip.is
+    ∙ of_clip (read t (goal.at.returns-in-Clip t c).After-node-words) at.figure.numbers.now from.parameters.now at.time from.instances.now (c.args.joints.first + j) (is_clip_lem _ _ _ c.node-words.ensures c.in-Clip.is)
     (c.instance_at-instance.ensures ∙ ap (instance_at from.instances.now) (slot_found at c.requires.1 from.filled))
 
 pub node_poses-requires : goal.node_poses-requires
