@@ -1,23 +1,23 @@
 -- Texts put into a slice one behind the other, and how many digits a number has. Assumes nothing.
-use Prim.Native.Nat.{ℕ, zero, suc, ◌+◌, ◌-◌, ◌/◌, ◌%◌, ◌^◌, ◌≤◌, ◌<◌}
-use mathlib.Core.Path.{◌≡◌, refl, ap, sym, ◌∙◌}
-use mathlib.Core.Bool.{Bool, true, false, cond}
-use mathlib.Core.List.{List, [], ◌∷◌, ◌++◌, map, append-nil, append_assoc, map-append}
-use native.Mathlib.Omega.{arith}
-use native.Mathlib.Numerals.{add-one, one-add}
-use native.Mathlib.Nat.{zero-add, pow-suc, div-lt_iff_lt-mul}
-use borrow.Author.Tests.{lt-ltb, le-ltb, ltb-false}
-use lib.Ieee.{Float, nan, binary32, to_bits}
-use lib.Dec.{ltb}
-use lib.ListN.{length, get_or, take, drop, set, length-append}
-use lib.Seq.{sets, sets-eq, length-sets, set_comm, take-suc, take-append_seam}
+use Rattle.std.proofs.Common.{◌≡◌, ℕ, zero, suc, ◌+◌, ◌-◌, ◌*◌, ◌/◌, ◌%◌, ◌^◌, ◌≤◌, ◌<◌, Bool, true, false, cond, ltb, List, [], ◌∷◌, ◌++◌, map, length, get_or, take, drop, set, refl, ap, sym, ◌∙◌, arith, add-one, zero-add, length-append, append_assoc}
+use Rattle.std.specs.Prelude.{max, Float}
+use Rattle.std.specs.Float.{nan, binary32}
+use Rattle.std.specs.Float.Ieee.{to_bits}
+use Rattle.std.proofs.Math.Nat.{pow-succ'}
+use Rattle.std.proofs.Math.Seq.{length-sets, take-suc, take-append_seam}
+use Rattle.std.proofs.lemmas.Bool.{lt-ltb, le-ltb}
+use Rattle.std.proofs.lemmas.List.{append-nil, map-append, drop-drop, drop-set}
+use Rattle.std.proofs.lemmas.List.Edits.{sets-eq}
+use borrow.Rule.Slice.PartMut.{put_mid}
 use Rattle.model.specs.declared.LineKind.TheVariants.{Joint}
+use Rattle.model.specs.Plan.{output_at}
 use Rattle.model.specs.Text.{comma, line_feed, name, overwritten}
 use Rattle.model.specs.Program.{glyph, digits, places, decimal_text, bits_text, decimal_fields, bits_fields}
 use Rattle.model.specs.Program.{refused_line, joint_line, joined}
 use Rattle.model.proofs.Laws.Digits.{length_digits}
 use Rattle.model.proofs.Laws.Stores.{sets-append}
-use Rattle.printing.specs.Written.{Written, Front, float_fields}
+use Rattle.printing.specs.Written.{Written, Front, float_fields, matrix_in}
+use Rattle.printing.specs.Sizes.{matrix_floats}
 
 -- ---- texts one behind the other
 
@@ -61,78 +61,55 @@ module _ {A : Type 0} (new old : List A) where
 pub front_text : {text before after : List ℕ} {end : ℕ} → Front text before after end → take end after ≡ text
 front_text {text = text} {before = before} f = rw (f.ended, f.whole) (front_is text before)
 
--- one byte more of a text that is copied
-pub next_byte : {xs ys : List ℕ} {at : ℕ} (bytes : List ℕ) (i : ℕ) → i < length bytes
-    → Written xs at (take i bytes) ys (at + i)
-    → Written xs at (take (i + 1) bytes) (set ys (at + i) (get_or bytes i 0)) (at + (i + 1))
-next_byte {ys = ys} {at = at} bytes i l p =
-    let e : at + (i + 1) ≡ at + i + 1 = omega arith in
-    rw (e, add-one i, take-suc bytes i 0 l) (more_written p (byte_written ys (at + i) (get_or bytes i 0)))
+-- a text that is put over a part of its length
+pub copied_written : (xs text : List ℕ) (at : ℕ) {ys : List ℕ} {end : ℕ} → end ≡ at + length text → end ≤ length xs → ys ≡ text
+    → Written xs at text (put_mid at (end - at) xs ys) end
+copied_written xs text at {end = end} long room same =
+    let behind : at + (end - at) ≡ at + length text = omega arith in
+    record { stored = rw (same, drop-drop, behind, ← append_assoc) (sym (sets-eq text xs at (omega arith))); ended = long }
 
 -- ---- digits
 
--- a byte behind a text may be stored before the text or after it
-sets_set : (xs : List ℕ) (n : ℕ) (text : List ℕ) (i b : ℕ) → n + length text ≤ i
-    → sets (set xs i b) n text ≡ set (sets xs n text) i b
-sets_set xs n [] i b l = refl
-sets_set xs n (d ∷ text) i b l =
-    rw (set_comm xs i n b d (λ e. omega arith)) (sets_set (set xs n d) (suc n) text i b (omega arith))
-
 -- the last of k digits is stored, and k - 1 digits are still to come
-pub last_digit : (xs : List ℕ) (at base k rest b : ℕ) → 0 < k → b ≡ glyph (rest % base)
-    → sets (set xs (at + (k - 1)) b) at (digits base (k - 1) (rest / base)) ≡ sets xs at (digits base k rest)
+pub last_digit : (xs : List ℕ) (base k rest b : ℕ) → 0 < k → k ≤ length xs → b ≡ glyph (rest % base)
+    → digits base (k - 1) (rest / base) ++ drop (k - 1) (set xs (k - 1) b) ≡ digits base k rest ++ drop k xs
 unfolding digits
-last_digit xs at base zero rest b l e = absurd (omega arith)
-last_digit xs at base (suc k) rest b l e =
+last_digit xs base zero rest b l inside e = absurd (omega arith)
+last_digit xs base (suc k) rest b l inside e =
     let one_less : suc k - 1 ≡ k = omega arith in
-    let front = digits base k (rest / base) in
-    let n : length front ≡ k = length_digits base k (rest / base) in
-    let end : at + k ≡ at + length front = omega arith in
-    rw (one_less, e, ← sets-append xs at front (glyph (rest % base) ∷ []), end)
-    (sets_set xs at front (at + length front) (glyph (rest % base)) (omega arith))
+    let here : k < length xs = omega arith in
+    rw (one_less, drop-set xs k b here, e, append_assoc (digits base k (rest / base)) (glyph (rest % base) ∷ []) (drop (suc k) xs), add-one k) refl
 
 -- ---- how many digits
 
-pub one_digit : (fuel n : ℕ) → n < 10 → places fuel n ≡ 1
+-- as many as the greatest power of ten has that is no larger, and one for 0
+pub places_by_power : (fuel k n : ℕ) → k ≤ fuel → 10 ^ k ≤ max n 1 → n < 10 * 10 ^ k → places fuel n ≡ k + 1
 unfolding places
-one_digit zero n small = refl
-one_digit (suc fuel) n small = simp (lt-ltb n 10 small)
-
--- of a number with no more than suc fuel digits, but with more than one, the last is taken off
-pub digit_less : (fuel rest : ℕ) → rest < 10 ^ suc fuel → 10 ≤ rest
-    → (0 < fuel) × (places fuel rest ≡ 1 + places (fuel - 1) (rest / 10)) × (rest / 10 < 10 ^ suc (fuel - 1))
-unfolding places
-digit_less zero rest small large = absurd (omega arith)
-digit_less (suc fuel) rest small large =
-    let e : suc fuel - 1 ≡ fuel = omega arith in
-    let less = (div-lt_iff_lt-mul {k = 10} (omega arith)).1 (rw pow-suc at small) in
-    (omega arith, simp (le-ltb rest 10 large, e, one-add), rw e less)
+places_by_power zero zero n few least small = refl
+places_by_power zero (suc k) n few least small = absurd (omega arith)
+places_by_power (suc fuel) zero n few least small = simp (lt-ltb n 10 (omega arith))
+places_by_power (suc fuel) (suc k) n few least small =
+    let large : 10 ≤ n = omega (arith, pow-succ' 10 k) in
+    simp (le-ltb n 10 large) (omega (arith, places_by_power fuel k (n / 10) (omega arith) (omega (arith, pow-succ' 10 k)) (omega (arith, pow-succ' 10 k))))
 
 few_places : (m fuel n : ℕ) → n < 10 ^ suc m → places fuel n ≤ suc m
 unfolding places
 few_places m zero n small = omega arith
-few_places m (suc fuel) n small =
-    go (ltb n 10) refl (λ large. few_places (m - 1) fuel (n / 10) (digit_less m n small large).2)
+few_places zero (suc fuel) n small = simp (lt-ltb n 10 small) (omega arith)
+few_places (suc m) (suc fuel) n small = go (ltb n 10) (few_places m fuel (n / 10) (omega (arith, pow-succ' 10 (suc m))))
   where
-    go : (t : Bool) → ltb n 10 ≡ t → (10 ≤ n → places fuel (n / 10) ≤ suc (m - 1))
-        → cond t 1 (suc (places fuel (n / 10))) ≤ suc m
-    go true e less = omega arith
-    go false e less = let large = ltb-false n 10 e in omega (arith, less large, (digit_less m n small large).0)
+    go : (t : Bool) → places fuel (n / 10) ≤ suc m → cond t 1 (suc (places fuel (n / 10))) ≤ suc (suc m)
+    go true fewer = omega arith
+    go false fewer = omega arith
 
 -- ---- fields
 
--- a comma, then digits
-pub field_written : (xs : List ℕ) (at base count n : ℕ) {ys : List ℕ}
-    → ys ≡ sets (set xs at comma) (at + 1) (digits base count n)
-    → Written xs at (comma ∷ digits base count n) ys (at + 1 + count)
-field_written xs at base count n e =
-    record { stored = rw add-one at e; ended = omega (arith, length_digits base count n) }
-
-pub short_decimal : (m n : ℕ) → n < 10 ^ suc m → length (decimal_fields (n ∷ [])) ≤ 2 + m
+-- an index of joints or clip nodes has few digits
+pub short_index : (n : ℕ) → n < 10 ^ 3 → length (decimal_fields (n ∷ [])) ≤ 1 + 3
 unfolding decimal_fields decimal_text
-short_decimal m n small =
+short_index n small =
     let k = places 19 n in
-    omega (arith, ap length (append-nil (digits 10 k n)), length_digits 10 k n, few_places m 19 n small)
+    omega (arith, ap length (append-nil (digits 10 k n)), length_digits 10 k n, few_places 2 19 n small)
 
 -- the bits of one float
 pub float_written : {xs ys : List ℕ} {at end : ℕ} (x : Float) (b : ℕ) → b ≡ to_bits binary32 x
@@ -140,7 +117,7 @@ pub float_written : {xs ys : List ℕ} {at end : ℕ} (x : Float) (b : ℕ) → 
 unfolding bits_fields bits_text
 float_written x b e p = rw (append-nil, ← e) p
 
-pub bits_append : (vs ws : List ℕ) → bits_fields (vs ++ ws) ≡ bits_fields vs ++ bits_fields ws
+bits_append : (vs ws : List ℕ) → bits_fields (vs ++ ws) ≡ bits_fields vs ++ bits_fields ws
 unfolding bits_fields
 bits_append [] ws = refl
 bits_append (v ∷ vs) ws =
@@ -168,19 +145,22 @@ two_decimals : (m n : ℕ) → decimal_fields (m ∷ n ∷ []) ≡ decimal_field
 unfolding decimal_fields
 two_decimals m n = ap (λ (text : List ℕ). comma ∷ text ++ decimal_fields (n ∷ [])) (sym (append-nil (decimal_text m)))
 
-pub joint_written : {xs a b c : List ℕ} {at p q r : ℕ} (j : ℕ) (floats : List Float) → Written xs at (name Joint) a p
-    → Written a p (decimal_fields (j ∷ [])) b q → Written b q (float_fields floats) c r
-    → Written xs at (joint_line j floats) (set c r line_feed) (r + 1)
+-- of as many floats as a matrix has, from joint j's place on
+pub joint_written : {xs a b c : List ℕ} {at p q r n : ℕ} (j : ℕ) (output : List Float) → n ≡ matrix_floats
+    → Written xs at (name Joint) a p → Written a p (decimal_fields (j ∷ [])) b q
+    → Written b q (float_fields (take n (drop (output_at j) output))) c r
+    → Written xs at (joint_line j (matrix_in output j)) (set c r line_feed) (r + 1)
 unfolding joint_line
-joint_written j floats w d f = more_written (more_written (more_written w d) f) (byte_written _ _ line_feed)
+joint_written j output e w d f =
+    more_written (more_written (more_written w d) (rw e at f)) (byte_written _ _ line_feed)
 
-pub refusal_written : {xs a b c : List ℕ} {at p q r : ℕ} (number place : ℕ)
-    → Written xs at (114 ∷ 101 ∷ 102 ∷ 117 ∷ 115 ∷ 101 ∷ 100 ∷ []) a p → Written a p (decimal_fields (number ∷ [])) b q
+pub refusal_written : {xs a b c : List ℕ} {at p q r n : ℕ} (number place : ℕ) → n ≡ number
+    → Written xs at (114 ∷ 101 ∷ 102 ∷ 117 ∷ 115 ∷ 101 ∷ 100 ∷ []) a p → Written a p (decimal_fields (n ∷ [])) b q
     → Written b q (decimal_fields (place ∷ [])) c r
     → Written xs at (refused_line number place) (set c r line_feed) (r + 1)
 unfolding refused_line
-refusal_written number place w d e =
-    rw (two_decimals number place) (more_written (more_written w (more_written d e)) (byte_written _ _ line_feed))
+refusal_written number place e w d f =
+    rw (two_decimals number place) (more_written (more_written w (more_written (rw e at d) f)) (byte_written _ _ line_feed))
 
 -- one line more
 pub next_line : {xs ys zs : List ℕ} {at middle end : ℕ} (n : ℕ) (lines : ℕ → List ℕ)

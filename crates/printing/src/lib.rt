@@ -1,11 +1,10 @@
 // What programs print, put into a slice of bytes from a place on: fields, a refusal, a line for each joint.
 // Each function returns the place behind what it put.
+// Not by `Display` and `write!`: `write_fmt` says which bytes it wrote only where it answers Ok, and nothing says where it does. `Written` holds at each return.
 #![tactic(auto)]
 
 ghost use Rattle.std.specs.Prelude.{◌≡◌, [], ◌∷◌, ◌+◌, ◌*◌, ◌<◌, ◌≤◌, length};
-ghost use Rattle.std.proofs.lemmas.List.Edits.{sets};
-ghost use Rattle.std.specs.Float.{binary32};
-ghost use Rattle.std.specs.Float.Ieee.{to_bits};
+ghost use Rattle.model.specs.Answers.{number_of};
 ghost use Rattle.model.specs.Text.{comma};
 ghost use Rattle.model.specs.Plan.{max_joints, output_at};
 ghost use Rattle.model.specs.Program.{glyph, digits, places, decimal_fields, refused_line, joint_line, number_bytes};
@@ -33,23 +32,22 @@ const JOINT_SIZE: usize = 5 + (1 + INDEX_DIGITS) + MATRIX_FLOATS * NUMBER_BYTES 
 // All that the program prints.
 pub const MAX_PRINTED: usize = MAX_JOINTS * JOINT_SIZE;
 
+// The byte of a digit.
 fn glyph(d: usize) -> u8
     requires { d < 16 }
     ensures { result ≡ glyph d }
 {
-    if d < 10 { 48 + d as u8 } else { 87 + d as u8 }
+    b"0123456789abcdef"[d]
 }
 
-// The last `count` digits of n, from `at` on.
-fn put_digits(out: &mut [u8], at: usize, base: usize, count: usize, n: usize)
-    requires { (2 ≤ base) × (base ≤ 16) × (at + count ≤ length out.old) }
-    ensures { out.new ≡ sets out.old at (digits base count n) }
+// The last digits of n, as many as there is room for.
+fn put_digits(out: &mut [u8], base: usize, n: usize)
+    requires { (2 ≤ base) × (base ≤ 16) }
+    ensures { out.new ≡ digits base (length out.old) n }
 {
     let mut rest = n;
-    let mut k = count;
-    while k > 0 {
-        k -= 1;
-        out[at + k] = glyph(rest % base);
+    for k in (0..out.len()).rev() {
+        out[k] = glyph(rest % base);
         rest /= base;
     }
 }
@@ -58,25 +56,16 @@ fn put_digits(out: &mut [u8], at: usize, base: usize, count: usize, n: usize)
 fn places(n: usize) -> usize
     ensures { (result ≡ places 19 n) × (result ≤ max_digits) }
 {
-    let mut rest = n;
-    let mut k = 1;
-    while rest >= 10 {
-        rest /= 10;
-        k += 1;
-    }
-    k
+    n.max(1).ilog10() as usize + 1
 }
 
 pub fn put_bytes(out: &mut [u8], at: usize, bytes: &[u8]) -> usize
     requires { at + length bytes.now ≤ length out.old }
     ensures { Written out.old at bytes.now out.new result }
 {
-    let mut i = 0;
-    while i < bytes.len() {
-        out[at + i] = bytes[i];
-        i += 1;
-    }
-    at + i
+    let behind = at + bytes.len();
+    out[at..behind].copy_from_slice(bytes);
+    behind
 }
 
 // A comma, and the last `count` digits of n.
@@ -85,8 +74,9 @@ pub fn put_field(out: &mut [u8], at: usize, base: usize, count: usize, n: usize)
     ensures { Written out.old at (comma ∷ digits base count n) out.new result }
 {
     out[at] = b',';
-    put_digits(out, at + 1, base, count, n);
-    at + 1 + count
+    let behind = at + 1 + count;
+    put_digits(&mut out[at + 1..behind], base, n);
+    behind
 }
 
 pub fn put_decimal(out: &mut [u8], at: usize, n: usize) -> usize
@@ -96,18 +86,12 @@ pub fn put_decimal(out: &mut [u8], at: usize, n: usize) -> usize
     put_field(out, at, 10, places(n), n)
 }
 
-fn bits(x: f32) -> usize
-    ensures { result ≡ to_bits binary32 x }
-{
-    f32_to_bits(x) as usize
-}
-
 // A comma, and the bits of x.
 pub fn put_bits(out: &mut [u8], at: usize, x: f32) -> usize
     requires { at + number_bytes ≤ length out.old }
     ensures { WrittenExactly number_bytes out.old at (float_fields (x ∷ [])) out.new result }
 {
-    put_field(out, at, 16, FLOAT_DIGITS, bits(x))
+    put_field(out, at, 16, FLOAT_DIGITS, f32_to_bits(x) as usize)
 }
 
 pub fn put_floats(out: &mut [u8], at: usize, floats: &[f32]) -> usize
@@ -116,10 +100,8 @@ pub fn put_floats(out: &mut [u8], at: usize, floats: &[f32]) -> usize
         out.old at (float_fields floats.now) out.new result }
 {
     let mut behind = at;
-    let mut k = 0;
-    while k < floats.len() {
-        behind = put_bits(out, behind, floats[k]);
-        k += 1;
+    for x in floats {
+        behind = put_bits(out, behind, *x);
     }
     behind
 }
@@ -127,16 +109,17 @@ pub fn put_floats(out: &mut [u8], at: usize, floats: &[f32]) -> usize
 pub fn put_refusal(out: &mut [u8], at: usize, refusal: Refusal) -> usize
     requires { at + refusal_size ≤ length out.old }
     ensures { WrittenUpTo refusal_size
-        out.old at (refused_line refusal.number refusal.place) out.new result }
+        out.old at (refused_line (number_of refusal.reason) refusal.place) out.new result }
 {
     let behind_name = put_bytes(out, at, b"refused");
-    let behind_number = put_decimal(out, behind_name, refusal.number);
+    let behind_number = put_decimal(out, behind_name, refusal.reason.number());
     let behind_place = put_decimal(out, behind_number, refusal.place);
     out[behind_place] = b'\n';
     behind_place + 1
 }
 
 // Joint j's line, for its matrix in an output.
+#[tactic(auto, using(crate::proofs::Laws::short_index))]
 fn put_joint(out: &mut [u8], at: usize, j: usize, output: &[f32]) -> usize
     requires { (j < max_joints)
         × (at + joint_size ≤ length out.old)
@@ -161,10 +144,8 @@ pub fn put_joints(out: &mut [u8], at: usize, count: usize, output: &[f32]) -> us
         out.old at (joint_lines count output.now) out.new result }
 {
     let mut behind = at;
-    let mut j = 0;
-    while j < count {
+    for j in 0..count {
         behind = put_joint(out, behind, j, output);
-        j += 1;
     }
     behind
 }

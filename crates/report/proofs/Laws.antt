@@ -1,16 +1,22 @@
 -- Lines written piece by piece, and lines of matrices. Assumes nothing.
-use Prim.Native.Nat.{ℕ, zero, suc}
-use mathlib.Core.Path.{◌≡◌, refl, ap, ◌∙◌}
-use mathlib.Core.List.{List, [], ◌∷◌, map, append-nil, map-append}
-use lib.Ieee.{Float}
+use Rattle.std.proofs.Common.{◌≡◌, ℕ, zero, suc, List, [], ◌∷◌, map, refl, ap, ◌∙◌}
+use Rattle.std.specs.Prelude.{Float}
+use Rattle.std.specs.Float.{binary64}
+use Rattle.std.specs.Float.Ieee.{to_bits}
+use Rattle.std.proofs.lemmas.List.{append-nil, map-append}
 use Rattle.model.specs.declared.ClipInstance.{ClipInstance}
-use Rattle.model.specs.Text.{line_feed}
-use Rattle.model.specs.Program.{decimal_fields, joint_line, joined}
+use Rattle.model.specs.Text.{comma, line_feed}
+use Rattle.model.specs.Program.{digits, decimal_fields, joint_line, joined}
 use Rattle.model.specs.Table.{table_to}
 use Rattle.model.proofs.Laws.Table.{table_length, table_at}
 use Rattle.printing.specs.Written.{Written, float_fields}
 use Rattle.printing.proofs.Laws.{more_written, floats_written, joined_same}
-use Rattle.report.specs.Report.{told_text, instance_line, matrix_lines, below}
+use Rattle.report.specs.Report.{wide_text, told_text, instance_line, matrix_lines, below}
+
+-- the bits of one wide float
+pub wide_written : {xs ys : List ℕ} {at end : ℕ} (x : Float) (b : ℕ) → b ≡ to_bits binary64 x
+    → Written xs at (comma ∷ digits 16 16 b) ys end → Written xs at (wide_text x) ys end
+wide_written x b e p = rw e at p
 
 pub loops_written : {xs a b c d : List ℕ} {at p q r t : ℕ} (loops rest : ℕ)
     → Written xs at (108 ∷ 111 ∷ 111 ∷ 112 ∷ 115 ∷ []) a p

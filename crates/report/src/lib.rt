@@ -3,8 +3,6 @@
 #![tactic(auto)]
 
 ghost use Rattle.std.specs.Prelude.{◌≡◌, ◌+◌, ◌<◌, ◌≤◌, length};
-ghost use Rattle.std.specs.Float.{binary64};
-ghost use Rattle.std.specs.Float.Ieee.{to_bits};
 ghost use Rattle.model.specs.Answers.{values};
 ghost use Rattle.model.specs.Plan.{max_clip_nodes};
 ghost use Rattle.model.specs.Clips.{instance_at};
@@ -18,7 +16,7 @@ ghost use Rattle.report.specs.Sizes.{parameters_size, instance_size, instances_s
 use animation::instance_at;
 use float::f64_to_bits;
 use model::limits::{MAX_CLIP_NODES, MAX_INSTANCES, MAX_PARAMETERS, NUMBER_BYTES};
-use model::{Answer, Player, Transition};
+use model::{Answer, LoopCount, Player, Transition};
 use printing::{
     DECIMAL_SIZE, put_bits, put_bytes, put_decimal, put_field, put_floats, put_refusal,
 };
@@ -35,35 +33,22 @@ pub const PLAYER_SIZE: usize = 6 + 2 * WIDE_SIZE + DECIMAL_SIZE + TRANSITION_SIZ
 
 pub const TOLD_SIZE: usize = 5 + 2 * DECIMAL_SIZE + 1;
 
-// What an accepted call is told besides.
-#[derive(Clone, Copy)]
-pub enum Told {
-    Nothing,
-    Loops { loops: usize, rest: usize },
-}
-
 pub fn put_answer(out: &mut [u8], at: usize, answer: Answer) -> usize
     requires { at + refusal_size ≤ length out.old }
     ensures { WrittenUpTo refusal_size out.old at (answer_line (values answer)) out.new result }
 {
     match answer {
-        Answer::Accepted => put_bytes(out, at, b"ok\n"),
-        Answer::Refused(refusal) => put_refusal(out, at, refusal),
+        Ok(()) => put_bytes(out, at, b"ok\n"),
+        Err(refusal) => put_refusal(out, at, refusal),
     }
 }
 
-fn wide_bits(x: f64) -> usize
-    ensures { result ≡ to_bits binary64 x }
-{
-    f64_to_bits(x) as usize
-}
-
-// A comma, and the bits of x.
+// A comma, and the bits of x. Beside `put_bits`, since a trait that makes one of the two one-line functions is longer than both.
 fn put_wide(out: &mut [u8], at: usize, x: f64) -> usize
     requires { at + wide_size ≤ length out.old }
     ensures { WrittenExactly wide_size out.old at (wide_text x) out.new result }
 {
-    put_field(out, at, 16, WIDE_DIGITS, wide_bits(x))
+    put_field(out, at, 16, WIDE_DIGITS, f64_to_bits(x) as usize)
 }
 
 fn put_transition(out: &mut [u8], at: usize, transition: Transition) -> usize
@@ -89,22 +74,22 @@ pub fn put_player(out: &mut [u8], at: usize, player: Player) -> usize
     requires { at + player_size ≤ length out.old }
     ensures { WrittenUpTo player_size out.old at (player_text player) out.new result }
 {
-    let transition = player.transition;
     let behind_name = put_bytes(out, at, b"player");
     let behind_clock = put_wide(out, behind_name, player.clock);
     let behind_speed = put_wide(out, behind_clock, player.speed);
     let behind_state = put_decimal(out, behind_speed, player.state);
-    let behind_transition = put_transition(out, behind_state, transition);
+    let behind_transition = put_transition(out, behind_state, player.transition);
     put_bytes(out, behind_transition, b"\n")
 }
 
-pub fn put_told(out: &mut [u8], at: usize, told: Told) -> usize
+// What a question that is accepted is told besides.
+pub fn put_told(out: &mut [u8], at: usize, told: Option<LoopCount>) -> usize
     requires { at + told_size ≤ length out.old }
     ensures { WrittenUpTo told_size out.old at (told_text (told_values told)) out.new result }
 {
     match told {
-        Told::Nothing => at,
-        Told::Loops { loops, rest } => {
+        None => at,
+        Some(LoopCount { loops, rest }) => {
             let behind_name = put_bytes(out, at, b"loops");
             let behind_loops = put_decimal(out, behind_name, loops);
             let behind_rest = put_decimal(out, behind_loops, rest);
@@ -125,6 +110,7 @@ pub fn put_parameters(out: &mut [u8], at: usize, parameters: &[f32; MAX_PARAMETE
     put_bytes(out, behind_floats, b"\n")
 }
 
+#[tactic(auto, using(printing::proofs::Laws::short_index))]
 fn put_instance(out: &mut [u8], at: usize, n: usize, instances: &[f32; MAX_INSTANCES]) -> usize
     requires { (n < max_clip_nodes) × (at + instance_size ≤ length out.old) }
     ensures { WrittenUpTo instance_size
@@ -146,10 +132,8 @@ pub fn put_instances(out: &mut [u8], at: usize, instances: &[f32; MAX_INSTANCES]
         out.old at (instance_lines max_clip_nodes instances.now) out.new result }
 {
     let mut behind = at;
-    let mut n = 0;
-    while n < MAX_CLIP_NODES {
+    for n in 0..MAX_CLIP_NODES {
         behind = put_instance(out, behind, n, instances);
-        n += 1;
     }
     behind
 }

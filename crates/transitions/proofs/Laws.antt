@@ -2,19 +2,37 @@
 use Prim.Native.Nat.{ℕ, suc, ◌+◌, ◌-◌, ◌≤◌, ◌<◌}
 use native.Mathlib.Numerals.{add-one}
 use native.Mathlib.Omega.{arith}
-use mathlib.Core.Path.{◌≡◌, ap, ◌∙◌}
-use mathlib.Core.Bool.{true, false, cond}
+use mathlib.Core.Path.{◌≡◌, refl, ap, ◌∙◌}
+use mathlib.Core.Bool.{Bool, true, false, cond}
+use lib.Dec.{eqb}
 use mathlib.Core.List.{List}
 use Rattle.std.specs.Prelude.{Option, Some, None}
-use lib.Ieee.{Float}
+use lib.Ieee.{Float, lt, le, eq, ne}
 use Rattle.model.specs.declared.Transition.{Transition}
 use Rattle.model.specs.declared.Transition.TheVariants.{Idle, Running}
-use Rattle.model.specs.Controller.{condition_holds, first_passing, winner, started_by, is_ended, step_from}
+use Rattle.model.specs.Controller.{holds, condition_holds, first_passing, winner, started_by, is_ended, step_from}
 use Rattle.model.proofs.Laws.Steps.{winner_had}
 use Rattle.layout.specs.declared.StateLayout.{StateLayout}
+use Rattle.layout.specs.Kinds.{operator_of}
+use Rattle.layout.specs.declared.Operator.TheVariants.{Less, AtMost, Greater, AtLeast, Equal, Unequal}
 use Rattle.layout.specs.Layout.{InPlan}
+use Rattle.transitions.specs.Operators.{compares}
 use Rattle.layout.proofs.Laws.{transitions_counted}
 use Rattle.transitions.specs.Step.{StepMade}
+
+-- ---- an operator says what its number does
+
+pub compares_holds : (n : ℕ) (p v : Float) → compares (operator_of n) p v ≡ holds n p v
+unfolding operator_of holds
+compares_holds n p v = go (eqb n 0) (eqb n 1) (eqb n 2) (eqb n 3) (eqb n 4)
+  where
+    go : (a b c d e : Bool) → compares (cond a Less (cond b AtMost (cond c Greater (cond d AtLeast (cond e Equal Unequal))))) p v ≡ cond a (lt p v) (cond b (le p v) (cond c (lt v p) (cond d (le v p) (cond e (eq p v) (ne p v)))))
+    go true b c d e = refl
+    go false true c d e = refl
+    go false false true d e = refl
+    go false false false true e = refl
+    go false false false false true = refl
+    go false false false false false = refl
 
 -- ---- the search, at transition t of n
 

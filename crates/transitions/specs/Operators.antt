@@ -1,8 +1,8 @@
 -- What each operator says of a parameter p and a value v. Definitions only.
 use Rattle.std.specs.Prelude.{Bool, Float}
 use Rattle.std.specs.Float.Ieee.{lt, le, eq, ne}
-use Rattle.transitions.specs.declared.Operator.{Operator}
-use Rattle.transitions.specs.declared.Operator.TheVariants.{Less, AtMost, Greater, AtLeast, Equal, Unequal}
+use Rattle.layout.specs.declared.Operator.{Operator}
+use Rattle.layout.specs.declared.Operator.TheVariants.{Less, AtMost, Greater, AtLeast, Equal, Unequal}
 
 abbrev pub compares : Operator → Float → Float → Bool
 compares Less p v = lt p v

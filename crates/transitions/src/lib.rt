@@ -1,57 +1,28 @@
 // What a frame does to the player's transition before anything is shown.
 #![tactic(auto)]
 
-ghost use Rattle.std.specs.Prelude.{◌≡◌, ℕ, ◌<◌, Some, Float};
-ghost use Rattle.model.specs.Controller.{holds, condition_holds, winner, started_by, is_ended};
+ghost use Rattle.std.specs.Prelude.{◌≡◌, ℕ, ◌<◌, Some};
+ghost use Rattle.model.specs.Controller.{condition_holds, winner, started_by, is_ended};
 ghost use Rattle.transitions.specs.Operators.{compares};
 ghost use Rattle.transitions.specs.Step.{StepMade};
 
 use float::widen;
-use layout::numbers_at;
 use layout::passed::State;
+use layout::{Operator, numbers_at};
 use model::Transition;
 use model::limits::MAX_PARAMETERS;
 
-// How a condition compares its parameter, on the left, with its value: < <= > >= == !=.
-#[derive(Clone, Copy)]
-enum Operator {
-    Less,
-    AtMost,
-    Greater,
-    AtLeast,
-    Equal,
-    Unequal,
-}
-
-// By its number in the plan: 5 is the last that the check lets pass.
-impl From<usize> for Operator {
-    ghost from_gives = { λ number r. (p v : Float) → compares r p v ≡ holds number p v };
-
-    #[tactic(auto, unfolding(model::specs::Controller::holds))]
-    fn from(number: usize) -> Self {
-        match number {
-            0 => Operator::Less,
-            1 => Operator::AtMost,
-            2 => Operator::Greater,
-            3 => Operator::AtLeast,
-            4 => Operator::Equal,
-            _ => Operator::Unequal,
-        }
-    }
-}
-
-impl Operator {
-    fn holds(self, p: f32, v: f32) -> bool
-        ensures { result ≡ compares self p v }
-    {
-        match self {
-            Operator::Less => p < v,
-            Operator::AtMost => p <= v,
-            Operator::Greater => p > v,
-            Operator::AtLeast => p >= v,
-            Operator::Equal => p == v,
-            Operator::Unequal => p != v,
-        }
+// The parameter stands on the left.
+fn holds(operator: Operator, p: f32, v: f32) -> bool
+    ensures { result ≡ compares operator p v }
+{
+    match operator {
+        Operator::Less => p < v,
+        Operator::AtMost => p <= v,
+        Operator::Greater => p > v,
+        Operator::AtLeast => p >= v,
+        Operator::Equal => p == v,
+        Operator::Unequal => p != v,
     }
 }
 
@@ -67,7 +38,11 @@ fn condition_holds(
 {
     let condition = state.condition(t);
     let compared = numbers_at(numbers, state.here, t);
-    Operator::from(condition.operator).holds(parameters[condition.parameter], compared.value)
+    holds(
+        condition.operator,
+        parameters[condition.parameter],
+        compared.value,
+    )
 }
 
 // Tries the conditions in the plan's order: the first that holds wins. No `for` or `find`: document 01 asks for a loop that

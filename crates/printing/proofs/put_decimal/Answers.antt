@@ -1,6 +1,6 @@
 -- `printing::put_decimal` meets its contract: one field is all, and has at most 20 digits. Assumes nothing.
-use mathlib.Core.List.{append-nil}
-use native.Mathlib.Omega.{arith}
+use Rattle.std.proofs.Common.{arith}
+use Rattle.std.proofs.lemmas.List.{append-nil}
 use Rattle.model.specs.Program.{decimal_text, decimal_fields}
 use Rattle.model.proofs.Laws.Digits.{length_digits}
 use Rattle.printing.proofs.put_decimal.Goals as goal
@@ -8,6 +8,4 @@ use Rattle.printing.proofs.put_decimal.Goals as goal
 pub returns : goal.returns
 unfolding decimal_fields decimal_text
 returns c =
-    let count = c.places in
-    let n = length_digits 10 count.result c.args.n in
-    (rw (append-nil, ← count.ensures.0) c.put_field.ensures, omega (arith, c.put_field.ensures.ended))
+    (rw (append-nil, ← c.places.ensures.0) c.put_field.ensures, omega (arith, length_digits, c.put_field.ensures.ended))

@@ -5,6 +5,7 @@ use Rattle.model.specs.Plan.{max_parameters}
 use Rattle.layout.specs.Layout.{condition_of, numbers_of}
 use Rattle.layout.proofs.Laws.{laid_passes}
 use Rattle.layout.proofs.NodeLaws.{parameter_there}
+use Rattle.transitions.proofs.Laws.{compares_holds}
 use Rattle.transitions.proofs.condition_holds.Goals as goal
 use Rattle.transitions.proofs.condition_holds.Goals.{After-condition-condition}
 
@@ -14,7 +15,7 @@ there c = let s = c.args.state.now in parameter_there (laid_passes s.plan.laid) 
 pub returns : goal.returns
 unfolding condition_of numbers_of
 returns c =
-    rw (c.holds.ensures, c.from.ensures _ _, c.numbers_at-compared.ensures _ c.args.state.now.place, c.condition-condition.ensures)
+    rw (c.holds.ensures, c.numbers_at-compared.ensures _ c.args.state.now.place, c.condition-condition.ensures) (compares_holds _ _ _)
 
 pub numbers_at-compared-requires : goal.numbers_at-compared-requires
 numbers_at-compared-requires c = let s = c.args.state.now in record { plan = _; passes = laid_passes s.plan.laid; place = s.place; below = c.requires }
