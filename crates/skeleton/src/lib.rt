@@ -10,7 +10,7 @@ ghost use Rattle.model.specs.Skeleton.{upper_transposed, own_matrix};
 ghost use Rattle.lanes.specs.Lanes.{block_size};
 ghost use Rattle.skeleton.specs.Buffer.{row_from, matrix_from, row_floats, stored, parent_in, OwnMatrices, Multiplied, GlobalPoses};
 
-use lanes::{BLOCK_FLOATS, lane};
+use lanes::{BLOCK_FLOATS, Joints, lane};
 use layout::parent;
 use layout::passed::Plan;
 use math::product_row;
@@ -176,49 +176,48 @@ pub fn calculate_root_pose(kind: FrameKind, pose: Pose, output: &mut [f32])
 fn set_own_matrices(
     kind: FrameKind,
     block: &[f32; BLOCK_FLOATS],
-    first: usize,
-    count: usize,
+    joints: Joints,
     output: &mut [f32],
 )
-    requires { (count ≤ block_size)
-        × (first + count ≤ max_joints)
-        × (output_at (first + count) ≤ length output.old) }
-    ensures { OwnMatrices kind block.now first count output.old output.new }
+    requires { (joints.count ≤ block_size)
+        × (joints.first + joints.count ≤ max_joints)
+        × (output_at (joints.first + joints.count) ≤ length output.old) }
+    ensures { OwnMatrices kind block.now joints.first joints.count output.old output.new }
 {
-    for i in 0..count {
+    for i in 0..joints.count {
         let own = own_matrix(kind, to_matrix(lane(block, i)));
-        set_matrix(output, output_at(first + i), own);
+        set_matrix(output, output_at(joints.first + i), own);
     }
 }
 
-// The own matrices of the `count` joints from `first` on become their global ones, parents first.
-fn multiply_by_parents(plan: &Plan<'_>, first: usize, count: usize, output: &mut [f32])
-    requires { (first + count ≤ joint_count plan.now.words.now)
-        × (output_at (first + count) ≤ length output.old) }
-    ensures { Multiplied plan.now.words.now first count output.old output.new }
+// The own matrices of a row of joints become their global ones, parents first.
+fn multiply_by_parents(plan: &Plan<'_>, joints: Joints, output: &mut [f32])
+    requires { (joints.first + joints.count ≤ joint_count plan.now.words.now)
+        × (output_at (joints.first + joints.count) ≤ length output.old) }
+    ensures { Multiplied plan.now.words.now joints.first joints.count output.old output.new }
 {
-    for j in first..first + count {
+    for j in joints.first..joints.first + joints.count {
         let own = matrix_at(output, output_at(j));
         let base = parent_matrix(plan, output, j);
         set_joint(output, j, base, own);
     }
 }
 
-// The matrices of the `count` joints from `first` on, whose poses are the block's lanes. In two loops, since the products
-// are faster where own matrices are read as rows.
+// The matrices of a row of joints, whose poses are the block's lanes. In two loops, since the products are faster where
+// own matrices are read as rows.
 pub fn calculate_global_poses(
     kind: FrameKind,
     plan: &Plan<'_>,
     block: &[f32; BLOCK_FLOATS],
-    first: usize,
-    count: usize,
+    joints: Joints,
     output: &mut [f32],
 )
-    requires { (count ≤ block_size)
-        × (first + count ≤ joint_count plan.now.words.now)
-        × (output_at (first + count) ≤ length output.old) }
-    ensures { GlobalPoses kind plan.now.words.now block.now first count output.old output.new }
+    requires { (joints.count ≤ block_size)
+        × (joints.first + joints.count ≤ joint_count plan.now.words.now)
+        × (output_at (joints.first + joints.count) ≤ length output.old) }
+    ensures { GlobalPoses kind plan.now.words.now block.now joints.first joints.count
+        output.old output.new }
 {
-    set_own_matrices(kind, block, first, count, output);
-    multiply_by_parents(plan, first, count, output);
+    set_own_matrices(kind, block, joints, output);
+    multiply_by_parents(plan, joints, output);
 }

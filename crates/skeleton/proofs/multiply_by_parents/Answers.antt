@@ -26,5 +26,5 @@ loop-j-preserved c =
 pub returns : goal.returns
 returns c =
     let l = c.loop-j in
-    let e : l.j ≡ c.args.first + c.args.count = omega arith in
+    let e : l.j ≡ c.args.joints.first + c.args.joints.count = omega arith in
     through_all _ _ _ (rw e at l.invariant.done)

@@ -5,4 +5,4 @@ use Rattle.skeleton.proofs.Laws.{Through}
 use Rattle.skeleton.proofs.multiply_by_parents.Given as goal
 
 abbrev pub invariant-loop-j : goal.invariant-loop-j
-invariant-loop-j l = record { same : length l.output ≡ length l.initial.output; done : Through l.plan.words.now l.first l.count l.initial.output l.output l.j }
+invariant-loop-j l = record { same : length l.output ≡ length l.initial.output; done : Through l.plan.words.now l.fn.joints.first l.fn.joints.count l.initial.output l.output l.j }

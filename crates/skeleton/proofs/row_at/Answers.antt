@@ -2,9 +2,7 @@
 use native.Mathlib.Omega.{arith}
 use Prim.Native.Nat.{ℕ, ◌+◌, ◌-◌, ◌<◌}
 use mathlib.Core.Path.{◌≡◌}
-use lib.Ieee.{Float}
 use lib.ListN.{get_or, take, drop}
-use Rattle.std.specs.Array.{IsWholeChunk}
 use Rattle.std.specs.Float.{nan}
 use Rattle.std.proofs.lemmas.List.{get_or-take}
 use Rattle.skeleton.specs.Buffer.{row_from}
