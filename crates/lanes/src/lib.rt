@@ -32,14 +32,10 @@ pub fn lane(block: &[f32; BLOCK_FLOATS], j: usize) -> Pose
     }
 }
 
-// Called for the proof alone: of a slice the length is known there, of a reference to an array it is not.
-fn sized(block: &[f32]) {}
-
 pub fn set_lane(block: &mut [f32; BLOCK_FLOATS], j: usize, p: Pose)
     requires { j < block_size }
     ensures { LaneSet block.old j p block.new }
 {
-    sized(block);
     let t = p.translation;
     let q = p.rotation;
     block[j] = t.x;

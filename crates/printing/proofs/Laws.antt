@@ -6,8 +6,8 @@ use Rattle.std.specs.Float.Ieee.{to_bits}
 use Rattle.std.proofs.Math.Nat.{pow-succ'}
 use Rattle.std.proofs.Math.Seq.{length-sets, take-suc, take-append_seam}
 use Rattle.std.proofs.lemmas.Bool.{lt-ltb, le-ltb}
-use Rattle.std.proofs.lemmas.List.{append-nil, map-append, drop-drop, set_comm}
-use Rattle.std.proofs.lemmas.List.Edits.{sets, sets-eq}
+use Rattle.std.proofs.lemmas.List.{append-nil, map-append, drop-drop, drop-set}
+use Rattle.std.proofs.lemmas.List.Edits.{sets-eq}
 use borrow.Rule.Slice.PartMut.{put_mid}
 use Rattle.model.specs.declared.LineKind.TheVariants.{Joint}
 use Rattle.model.specs.Plan.{output_at}
@@ -61,34 +61,24 @@ module _ {A : Type 0} (new old : List A) where
 pub front_text : {text before after : List ℕ} {end : ℕ} → Front text before after end → take end after ≡ text
 front_text {text = text} {before = before} f = rw (f.ended, f.whole) (front_is text before)
 
--- a text that is copied over a part of its length
-pub copied_written : (xs bytes : List ℕ) (at : ℕ) {ys : List ℕ} → at + length bytes ≤ length xs → ys ≡ bytes
-    → Written xs at bytes (put_mid at (at + length bytes - at) xs ys) (at + length bytes)
-copied_written xs bytes at room same =
-    let end : at + (at + length bytes - at) ≡ at + length bytes = omega arith in
-    record { stored = rw (same, drop-drop, end, ← append_assoc) (sym (sets-eq bytes xs at room)); ended = refl }
+-- a text that is put over a part of its length
+pub copied_written : (xs text : List ℕ) (at : ℕ) {ys : List ℕ} {end : ℕ} → end ≡ at + length text → end ≤ length xs → ys ≡ text
+    → Written xs at text (put_mid at (end - at) xs ys) end
+copied_written xs text at {end = end} long room same =
+    let behind : at + (end - at) ≡ at + length text = omega arith in
+    record { stored = rw (same, drop-drop, behind, ← append_assoc) (sym (sets-eq text xs at (omega arith))); ended = long }
 
 -- ---- digits
 
--- a byte behind a text may be stored before the text or after it
-sets_set : (xs : List ℕ) (n : ℕ) (text : List ℕ) (i b : ℕ) → n + length text ≤ i
-    → sets (set xs i b) n text ≡ set (sets xs n text) i b
-sets_set xs n [] i b l = refl
-sets_set xs n (d ∷ text) i b l =
-    rw (set_comm xs i n b d (λ e. omega arith)) (sets_set (set xs n d) (suc n) text i b (omega arith))
-
 -- the last of k digits is stored, and k - 1 digits are still to come
-pub last_digit : (xs : List ℕ) (at base k rest b : ℕ) → 0 < k → b ≡ glyph (rest % base)
-    → sets (set xs (at + (k - 1)) b) at (digits base (k - 1) (rest / base)) ≡ sets xs at (digits base k rest)
+pub last_digit : (xs : List ℕ) (base k rest b : ℕ) → 0 < k → k ≤ length xs → b ≡ glyph (rest % base)
+    → digits base (k - 1) (rest / base) ++ drop (k - 1) (set xs (k - 1) b) ≡ digits base k rest ++ drop k xs
 unfolding digits
-last_digit xs at base zero rest b l e = absurd (omega arith)
-last_digit xs at base (suc k) rest b l e =
+last_digit xs base zero rest b l inside e = absurd (omega arith)
+last_digit xs base (suc k) rest b l inside e =
     let one_less : suc k - 1 ≡ k = omega arith in
-    let front = digits base k (rest / base) in
-    let n : length front ≡ k = length_digits base k (rest / base) in
-    let end : at + k ≡ at + length front = omega arith in
-    rw (one_less, e, ← sets-append xs at front (glyph (rest % base) ∷ []), end)
-    (sets_set xs at front (at + length front) (glyph (rest % base)) (omega arith))
+    let here : k < length xs = omega arith in
+    rw (one_less, drop-set xs k b here, e, append_assoc (digits base k (rest / base)) (glyph (rest % base) ∷ []) (drop (suc k) xs), add-one k) refl
 
 -- ---- how many digits
 
@@ -114,13 +104,6 @@ few_places (suc m) (suc fuel) n small = go (ltb n 10) (few_places m fuel (n / 10
 
 -- ---- fields
 
--- a comma, then digits
-pub field_written : (xs : List ℕ) (at base count n : ℕ) {ys : List ℕ}
-    → ys ≡ sets (set xs at comma) (at + 1) (digits base count n)
-    → Written xs at (comma ∷ digits base count n) ys (at + 1 + count)
-field_written xs at base count n e =
-    record { stored = rw add-one at e; ended = omega (arith, length_digits base count n) }
-
 -- an index of joints or clip nodes has few digits
 pub short_index : (n : ℕ) → n < 10 ^ 3 → length (decimal_fields (n ∷ [])) ≤ 1 + 3
 unfolding decimal_fields decimal_text
@@ -134,7 +117,7 @@ pub float_written : {xs ys : List ℕ} {at end : ℕ} (x : Float) (b : ℕ) → 
 unfolding bits_fields bits_text
 float_written x b e p = rw (append-nil, ← e) p
 
-pub bits_append : (vs ws : List ℕ) → bits_fields (vs ++ ws) ≡ bits_fields vs ++ bits_fields ws
+bits_append : (vs ws : List ℕ) → bits_fields (vs ++ ws) ≡ bits_fields vs ++ bits_fields ws
 unfolding bits_fields
 bits_append [] ws = refl
 bits_append (v ∷ vs) ws =

@@ -4,7 +4,6 @@
 #![tactic(auto)]
 
 ghost use Rattle.std.specs.Prelude.{◌≡◌, [], ◌∷◌, ◌+◌, ◌*◌, ◌<◌, ◌≤◌, length};
-ghost use Rattle.std.proofs.lemmas.List.Edits.{sets};
 ghost use Rattle.model.specs.Answers.{number_of};
 ghost use Rattle.model.specs.Text.{comma};
 ghost use Rattle.model.specs.Plan.{max_joints, output_at};
@@ -41,14 +40,14 @@ fn glyph(d: usize) -> u8
     b"0123456789abcdef"[d]
 }
 
-// The last `count` digits of n, from `at` on.
-fn put_digits(out: &mut [u8], at: usize, base: usize, count: usize, n: usize)
-    requires { (2 ≤ base) × (base ≤ 16) × (at + count ≤ length out.old) }
-    ensures { out.new ≡ sets out.old at (digits base count n) }
+// The last digits of n, as many as there is room for.
+fn put_digits(out: &mut [u8], base: usize, n: usize)
+    requires { (2 ≤ base) × (base ≤ 16) }
+    ensures { out.new ≡ digits base (length out.old) n }
 {
     let mut rest = n;
-    for k in (0..count).rev() {
-        out[at + k] = glyph(rest % base);
+    for k in (0..out.len()).rev() {
+        out[k] = glyph(rest % base);
         rest /= base;
     }
 }
@@ -75,8 +74,9 @@ pub fn put_field(out: &mut [u8], at: usize, base: usize, count: usize, n: usize)
     ensures { Written out.old at (comma ∷ digits base count n) out.new result }
 {
     out[at] = b',';
-    put_digits(out, at + 1, base, count, n);
-    at + 1 + count
+    let behind = at + 1 + count;
+    put_digits(&mut out[at + 1..behind], base, n);
+    behind
 }
 
 pub fn put_decimal(out: &mut [u8], at: usize, n: usize) -> usize

@@ -2,54 +2,118 @@
 // README.md has the rows' format; oracle/compare makes rows and judges the answers.
 #![tactic(auto)]
 
-mod answer;
-mod text;
+ghost use Rattle.std.specs.Prelude.{◌≤◌, length};
+ghost use Rattle.recorded_functions.specs.Sizes.{max_operands};
 
-use answer::{MAX_OPERANDS, answer_to, operand_count};
+mod line;
+mod words;
+
+use fields::{Field, read_field};
+use line::Line;
+use model::FieldForm;
+use model::limits::{MATRIX_FLOATS as MATRIX, NUMBER_BYTES, POSE_FLOATS as POSE};
 use std::io::{Read, Write};
+use std::slice::Iter;
 use test_io::read_front;
-use text::{ROW_SIZE, WORD_SIZE, parse, print_words};
+use words::{Words, next};
 
-fn print_malformed<W: Write>(output: &mut W, row: u64) {
-    let _ = writeln!(output, "malformed,{row}");
+// The most words that a row has, which are two matrices.
+const MAX_OPERANDS: usize = 2 * MATRIX;
+
+// The longest row behind its letter, with its LF.
+const ROW_SIZE: usize = NUMBER_BYTES * MAX_OPERANDS + 1;
+
+// Why no row is answered any more.
+#[derive(Drop)]
+enum End {
+    Input,
+    Malformed,
+    Output,
 }
 
-// Reads what follows the letter. False if the letter is unknown, or the row is cut or malformed.
-fn read_operands<R: Read>(input: &mut R, letter: u8, words: &mut [u32; MAX_OPERANDS]) -> bool {
-    let mut row = [0u8; ROW_SIZE];
-    let count = operand_count(letter);
-    if count == 0 {
-        return false;
-    }
-    let size = WORD_SIZE * count + 1;
-    if !read_front(input, &mut row, size) {
-        return false;
-    }
-    parse(&row, count, words)
-}
-
-// False at the end of the input, at a malformed row, and where the answer cannot be written.
-fn answer_row<R: Read, W: Write>(input: &mut R, output: &mut W, row: u64) -> bool {
-    let mut letter = [0u8; 1];
-    if !read_front(input, &mut letter, 1) {
-        return false;
-    }
+// The words of a row's operands. None where a comma, a digit or the LF is missing.
+fn parse(row: &[u8]) -> Option<[u32; MAX_OPERANDS]> {
+    let [operands @ .., b'\n'] = row else {
+        return None;
+    };
     let mut words = [0u32; MAX_OPERANDS];
-    if !read_operands(input, letter[0], &mut words) {
-        print_malformed(output, row);
-        return false;
+    for (word, operand) in words.iter_mut().zip(operands.chunks_exact(NUMBER_BYTES)) {
+        let [b',', digits @ ..] = operand else {
+            return None;
+        };
+        let Field::Value { value, end: _ } = read_field(digits, 0, FieldForm::Bits) else {
+            return None;
+        };
+        *word = u32::try_from(value).ok()?;
     }
-    let a = answer_to(letter[0], words);
-    let answer_words = a.words;
-    print_words(output, answer_words, a.count)
+    Some(words)
+}
+
+// Where rows come from, and where their answers go.
+#[derive(Drop)]
+struct Rows<R, W> {
+    input: R,
+    output: W,
+}
+
+impl<R: Read, W: Write> Rows<R, W> {
+    // Reads `count` operands, and prints what `call` makes of them.
+    fn answer<T: Words, F: FnOnce(&mut Iter<'_, u32>) -> T>(
+        &mut self,
+        count: usize,
+        call: F,
+    ) -> Result<(), End>
+        requires few { count ≤ max_operands }
+        requires callable { F.IsAlwaysCallable call }
+    {
+        let mut row = [0u8; ROW_SIZE];
+        let row = read_front(&mut self.input, &mut row, NUMBER_BYTES * count + 1).map_err(
+            |_| End::Malformed,
+        )?;
+        let words = parse(row).ok_or(End::Malformed)?;
+        let mut line = Line::new();
+        call(&mut words.iter()).put(&mut line);
+        line.print(&mut self.output).map_err(|_| End::Output)
+    }
+
+    // A row's letter picks the function that its operands go to.
+    fn answer_next(&mut self) -> Result<(), End> {
+        let mut letter = [0u8; 1];
+        self.input.read_exact(&mut letter).map_err(|_| End::Input)?;
+        match letter[0] {
+            b'i' => self.answer(1, |w| math::inv_sqrt(next(w))),
+            b'l' => self.answer(9, |w| math::lerp_quaternion(next(w), next(w), next(w))),
+            b'm' => self.answer(4, |w| math::quaternion_to_matrix(next(w))),
+            b'q' => self.answer(MATRIX, |w| math::matrix_to_quaternion(next(w))),
+            b'p' => self.answer(2 * MATRIX, |w| math::row_mat4_mul(next(w), next(w))),
+            b'L' => self.answer(2 * POSE + 1, |w| transform::lerp(next(w), next(w), next(w))),
+            b'c' => self.answer(2 * POSE, |w| transform::concat(next(w), next(w))),
+            b'M' => self.answer(POSE, |w| transform::to_matrix(next(w))),
+            b'Q' => self.answer(MATRIX, |w| transform::from_matrix(next(w))),
+            b'w' => self.answer(1, |w| float::f64_to_bits(float::widen(next(w)))),
+            b'n' => self.answer(2, |w| float::narrow(float::f64_from_bits(next(w)))),
+            b'd' => self.answer(1, |w| float::floor_index(next(w))),
+            b'u' => self.answer(1, |w| float::ceiling_index(next(w))),
+            b'x' => self.answer(2, |w| float::index_to_float(next(w))),
+            _ => Err(End::Malformed),
+        }
+    }
 }
 
 // A proved loop has to end, and nothing says that the input does: the row's number cannot grow past u64::MAX.
 fn main(rt: HostRuntime) {
-    let mut input = rt.stdin();
-    let mut output = rt.stdout();
-    let mut row: u64 = 1;
-    while row < u64::MAX && answer_row(&mut input, &mut output, row) {
-        row += 1;
+    let mut rows = Rows {
+        input: rt.stdin(),
+        output: rt.stdout(),
+    };
+    for row in 1..u64::MAX {
+        match rows.answer_next() {
+            Ok(()) => {}
+            Err(End::Malformed) => {
+                let _ = writeln!(rows.output, "malformed,{row}");
+                return;
+            }
+            Err(End::Input | End::Output) => return,
+        }
     }
 }

@@ -5,7 +5,7 @@ use Rattle.printing.proofs.Laws.{last_digit}
 use Rattle.printing.proofs.put_digits.Goals as goal
 
 pub loop-k-preserved : goal.loop-k-preserved
-loop-k-preserved c = last_digit _ _ _ _ _ _ (omega arith) c.glyph.ensures ∙ c.loop-k.invariant
+loop-k-preserved c = last_digit _ _ _ _ _ (omega arith) (omega arith) c.glyph.ensures ∙ c.loop-k.invariant
 
 pub returns : goal.returns
 unfolding digits
