@@ -57,7 +57,7 @@ fn identity_poses(count: usize, block: &mut [f32; BLOCK_FLOATS])
 // A clip, between two of its samples, whose places are worked out once: with `joint_pose` in each lane some sizes are
 // slower by a sixth.
 fn sampled_poses(
-    figure: &Figure,
+    figure: &Figure<'_>,
     samples: Position,
     joints: Joints,
     block: &mut [f32; BLOCK_FLOATS],

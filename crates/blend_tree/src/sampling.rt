@@ -18,7 +18,7 @@ pub struct Clip {
 }
 
 // Reading a clip and sampling it are two functions, so that the compiler inlines both wherever they are called.
-pub fn clip_at(figure: &Figure, c: usize) -> Clip
+pub fn clip_at(figure: &Figure<'_>, c: usize) -> Clip
     requires { c < clip_count figure.now.plan.words.now }
     ensures { result ≡ clip_of figure.now.plan.words.now figure.now.numbers.now c }
 {
@@ -54,7 +54,7 @@ pub fn clip_samples(clip: Clip, position: f32) -> Position
 }
 
 // A joint's pose between two such samples.
-pub fn joint_pose(figure: &Figure, samples: Position, joint: usize) -> Pose
+pub fn joint_pose(figure: &Figure<'_>, samples: Position, joint: usize) -> Pose
     requires { Sampled figure.now samples × (joint < figure.now.plan.layout.joints) }
     ensures { result ≡ pose_between figure.now.numbers.now figure.now.plan.layout samples joint }
 {

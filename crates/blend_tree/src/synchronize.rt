@@ -13,7 +13,7 @@ use layout::{Kind, rate};
 use model::limits::{MAX_INSTANCES, MAX_PARAMETERS};
 
 // The instance of node i, if it is a clip node.
-pub fn clip_node(state: &State, i: usize) -> usize
+pub fn clip_node(state: &State<'_>, i: usize) -> usize
     requires { i < state.now.here.nodes }
     ensures { result ≡ clip_node_at state.now.plan.words.now state.now.here.state i }
 {
@@ -26,7 +26,7 @@ pub fn clip_node(state: &State, i: usize) -> usize
 
 // That of every node, in one pass. A slot of another node is not read. They are bytes in an array of the caller's,
 // since copies of them cost more than all else for a state of one node.
-fn clip_slots(state: &State, slots: &mut [u8; SLOTS])
+fn clip_slots(state: &State<'_>, slots: &mut [u8; SLOTS])
     ensures { Slots state.now.plan.words.now state.now.here.state slots.new }
 {
     let mut next = state.here.clip_node;
@@ -37,7 +37,7 @@ fn clip_slots(state: &State, slots: &mut [u8; SLOTS])
 }
 
 // The clip node after node i.
-fn next_clip_node(state: &State, i: usize, clip_node: usize) -> usize
+fn next_clip_node(state: &State<'_>, i: usize, clip_node: usize) -> usize
     requires { (i < state.now.here.nodes)
         × (clip_node ≤ max_word)
         × (clip_node ≡ clip_node_at state.now.plan.words.now state.now.here.state i) }
@@ -122,13 +122,21 @@ impl<'a> StateAt<'a> {
             return;
         }
         let words = self.node(i);
-        let a = words.a;
-        let b = words.b;
-        let length_a = self.node_length(a);
-        let length_b = self.node_length(b);
+        let length_a = self.node_length(words.a);
+        let length_b = self.node_length(words.b);
         let target = target_length(parameters[words.parameter], length_a, length_b);
-        set_rate(instances, slots[a] as usize, self.time, length_a / target);
-        set_rate(instances, slots[b] as usize, self.time, length_b / target);
+        set_rate(
+            instances,
+            slots[words.a] as usize,
+            self.time,
+            length_a / target,
+        );
+        set_rate(
+            instances,
+            slots[words.b] as usize,
+            self.time,
+            length_b / target,
+        );
     }
 
     // All its nodes, in order, with its slots, which its poses need too.

@@ -34,8 +34,8 @@ pub struct Target<'a> {
 
 // The poses of a row of joints, as they are shown.
 pub fn shown_poses(
-    source: &Source,
-    target: Option<&Target>,
+    source: &Source<'_>,
+    target: Option<&Target<'_>>,
     joints: Joints,
     block: &mut [f32; BLOCK_FLOATS],
 )
@@ -54,7 +54,12 @@ pub fn shown_poses(
 }
 
 // All joints, block by block.
-fn show_blocks(kind: FrameKind, source: &Source, target: Option<&Target>, output: &mut [f32])
+fn show_blocks(
+    kind: FrameKind,
+    source: &Source<'_>,
+    target: Option<&Target<'_>>,
+    output: &mut [f32],
+)
     requires { IfSome target
         (λ t. t.now.source.state.figure.plan.layout ≡ source.now.state.figure.plan.layout)
         × HasRoom source.now.state.figure.plan.words.now output.old }
@@ -73,7 +78,7 @@ fn show_blocks(kind: FrameKind, source: &Source, target: Option<&Target>, output
 }
 
 // The first joint's pose in a clip.
-fn clip_pose(figure: &Figure, number: usize, instance: ClipInstance, time: f32) -> Pose
+fn clip_pose(figure: &Figure<'_>, number: usize, instance: ClipInstance, time: f32) -> Pose
     requires { (number < clip_count figure.now.plan.words.now) × (0 < figure.now.plan.layout.joints) }
     ensures { result
         ≡ clip_pose figure.now.plan.words.now figure.now.numbers.now number 0 (local_time instance time) }
@@ -90,7 +95,7 @@ fn clip_pose(figure: &Figure, number: usize, instance: ClipInstance, time: f32) 
 // A figure of one joint in a state of one clip. It needs no block, and is not synchronised.
 pub fn show_joint(
     kind: FrameKind,
-    state: &StateAt,
+    state: &StateAt<'_>,
     instances: &[f32; MAX_INSTANCES],
     output: &mut [f32],
 )
@@ -115,7 +120,7 @@ fn transition_factor(instant: f64, start: f64, duration: f32) -> f32
     narrow((instant - start) / widen(duration))
 }
 
-// The target of a transition at a state's time. It is synchronised too.
+// The state that a transition leads to, at the same time. It is synchronised too.
 pub fn synchronize_target<'a>(
     state: &StateAt<'a>,
     target: usize,
@@ -137,10 +142,10 @@ pub fn synchronize_target<'a>(
     there
 }
 
-// A state on its way to another, whose instances these are.
+// A state on its way to another. The instances lent are the other's.
 fn show_transition(
     kind: FrameKind,
-    source: &Source,
+    source: &Source<'_>,
     target: usize,
     factor: f32,
     instances: &mut [f32; MAX_INSTANCES],
@@ -170,7 +175,7 @@ fn show_transition(
 // target's rates were set, as the Rust does.
 pub fn show(
     kind: FrameKind,
-    state: &StateAt,
+    state: &StateAt<'_>,
     transition: Transition,
     parameters: &[f32; MAX_PARAMETERS],
     instances: &mut [f32; MAX_INSTANCES],
@@ -186,28 +191,30 @@ pub fn show(
 {
     let mut slots = [0u8; SLOTS];
     state.synchronize(parameters, &mut slots, instances);
-    let Transition::Running {
-        start,
-        target,
-        duration,
-    } = transition
-    else {
-        let source = Source {
-            state: *state,
-            parameters,
-            slots: &slots,
-            instances,
-        };
-        show_blocks(kind, &source, None, output);
-        return;
-    };
-    let current = *instances;
-    let source = Source {
-        state: *state,
-        parameters,
-        slots: &slots,
-        instances: &current,
-    };
-    let factor = transition_factor(instant, start, duration);
-    show_transition(kind, &source, target, factor, instances, output);
+    match transition {
+        Transition::Idle => {
+            let source = Source {
+                state: *state,
+                parameters,
+                slots: &slots,
+                instances,
+            };
+            show_blocks(kind, &source, None, output);
+        }
+        Transition::Running {
+            start,
+            target,
+            duration,
+        } => {
+            let current = *instances;
+            let source = Source {
+                state: *state,
+                parameters,
+                slots: &slots,
+                instances: &current,
+            };
+            let factor = transition_factor(instant, start, duration);
+            show_transition(kind, &source, target, factor, instances, output);
+        }
+    }
 }

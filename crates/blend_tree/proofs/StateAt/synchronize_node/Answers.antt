@@ -44,20 +44,20 @@ offset_bounds-parameters-words c = omega (arith, known (goal.at.offset_bounds-pa
 pub bounds-parameters-words : goal.bounds-parameters-words
 bounds-parameters-words c = (known (goal.at.bounds-parameters-words c).After-node-words).4
 
-pub bounds-slots-a : goal.bounds-slots-a
-bounds-slots-a c =
+pub bounds-slots-words : goal.bounds-slots-words
+bounds-slots-words c =
     let at = c.args.self.now in
-    omega (arith, node_small (passes at) at.place (known (goal.at.bounds-slots-a c).After-node-words).0)
+    omega (arith, node_small (passes at) at.place (known (goal.at.bounds-slots-words c).After-node-words).0)
 
 pub set_rate-requires : goal.set_rate-requires
 set_rate-requires c =
     let k = known (goal.at.set_rate-requires c).After-node-words in
     slot_small c.args.self.now k.0 c.requires.0 k.1
 
-pub bounds-slots-b : goal.bounds-slots-b
-bounds-slots-b c =
+pub bounds-slots-words-2 : goal.bounds-slots-words-2
+bounds-slots-words-2 c =
     let at = c.args.self.now in
-    omega (arith, node_small (passes at) at.place (known (goal.at.bounds-slots-b c).After-node-words).2)
+    omega (arith, node_small (passes at) at.place (known (goal.at.bounds-slots-words-2 c).After-node-words).2)
 
 pub set_rate-requires-2 : goal.set_rate-requires-2
 set_rate-requires-2 c =
