@@ -1,9 +1,8 @@
--- The index after another, and the sample after another. Assumes nothing.
+-- The index after another. Assumes nothing.
 use mathlib.Core.Path.{◌≡◌, refl, sym, ap, ◌∙◌}
-use Prim.Native.Nat.{ℕ, suc, ◌+◌, ◌%◌, ◌<◌}
-use native.Mathlib.Nat.{add-zero, mod_self, mod-eq_of_lt}
+use Prim.Native.Nat.{suc, ◌+◌}
+use native.Mathlib.Nat.{add-zero}
 use native.Mathlib.Numerals.{add-one}
-use native.Mathlib.Omega.{arith}
 use mathlib.Core.Bool.{Bool, true, false, cond}
 use lib.Dec.{T}
 use lib.IntN.{pos}
@@ -23,9 +22,3 @@ ceiling_after x f other = go (lt x (fin false 1 (pos 24))) refl
     go : (t : Bool) → lt x (fin false 1 (pos 24)) ≡ t → ceiling_index x ≡ suc (floor_index x)
     go true h = one_more (lt (of_int binary32 (pos (to_unsigned 64 x))) x) (ceiling_small x h)
     go false h = absurd (other (ceiling_large x f h ∙ sym (floor_is x)))
-
-pub first_after : (sample n : ℕ) → sample + 1 ≡ n → 0 ≡ suc sample % n
-first_after sample n e = rw (← e, add-one) (sym (mod_self (suc sample)))
-
-pub next_after : (sample n : ℕ) → sample < n → (sample + 1 ≡ n → ⊥) → sample + 1 ≡ suc sample % n
-next_after sample n l other = rw (add-one, mod-eq_of_lt {n = suc sample} {m = n} (omega arith))

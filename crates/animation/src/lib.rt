@@ -83,7 +83,7 @@ pub fn set_playback_rate(i: ClipInstance, time: f32, rate: f32) -> ClipInstance
     if i.rate != rate {
         return ClipInstance {
             start: i.start,
-            rate: rate,
+            rate,
             offset: local_time(i, time) - (time - i.start) * rate,
         };
     }

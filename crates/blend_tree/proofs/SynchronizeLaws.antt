@@ -9,9 +9,8 @@ use lib.ListN.{length, get_or, set}
 use lib.Seq.{get_or-set_same, get_or-set_other}
 use lib.Ieee.{Float}
 use borrow.Author.Count.{below_more}
-use borrow.Author.Tests.{eq-eqb, ne_eqb}
 use Rattle.model.specs.Answers.{accepted}
-use Rattle.model.specs.Plan.{max_clip_nodes, sample_count, is_empty, state_count, node_count, is_clip, is_lerp, total, clip_nodes_before, clip_node_at}
+use Rattle.model.specs.Plan.{max_clip_nodes, sample_count, is_empty, state_count, node_count, is_clip, total, clip_nodes_before, clip_node_at}
 use Rattle.model.specs.Check.{check_state}
 use Rattle.model.proofs.Laws.Touched.{touched_blends, touched_a, touched_b}
 use Rattle.model.proofs.Laws.ClipNodes.{first_clip_node, clip_counts, blend_counts_not}
@@ -19,38 +18,35 @@ use Rattle.model.proofs.Laws.State.{few_clip_nodes}
 use Rattle.model.proofs.Laws.Passed.{state_passed}
 use Rattle.model.specs.Tree.{parameter, target_length, plays_samples, is_touched, node_length, node_target, synchronized_rate, rate_set, input_synchronized, synchronize_node}
 use Rattle.layout.specs.declared.StateLayout.{StateLayout}
+use Rattle.layout.specs.declared.Kind.TheVariants as kind
 use Rattle.layout.specs.declared.Node.{Node}
 use Rattle.layout.specs.Layout.{Passes, InPlan, node_of}
 use Rattle.layout.proofs.Laws.{here_ok, nodes_counted}
-use Rattle.layout.proofs.NodeLaws.{is_clip_lem, no_clip}
+use Rattle.layout.proofs.NodeLaws.{is_clip_lem, no_clip, is_lerp_lem, no_lerp}
 
 module _ (plan : List ℕ) (s i : ℕ) {n : Node} (e : n ≡ node_of plan s i) where
-  lerp_told : is_lerp plan s i ≡ eqb n.kind 1
-  unfolding node_of is_lerp
-  lerp_told = rw e
-
-  pub lerp_no_clip : n.kind ≡ 1 → is_clip plan s i ≡ false
-  lerp_no_clip h = no_clip plan s i e (λ k. omega arith)
-
-  pub other_untouched : (n.kind ≡ 1 → ⊥) → false ≡ is_touched plan s i
+  pub other_untouched : (n.kind ≡ kind.Lerp → ⊥) → false ≡ is_touched plan s i
   unfolding is_touched
-  other_untouched h = sym (rw (lerp_told ∙ ne_eqb _ _ h))
+  other_untouched h = sym (rw (no_lerp plan s i e h))
 
-  pub lerp_touched : n.kind ≡ 1 → is_touched plan s i ≡ plays_samples plan s n.a && plays_samples plan s n.b
+  pub lerp_touched : n.kind ≡ kind.Lerp → is_touched plan s i ≡ plays_samples plan s n.a && plays_samples plan s n.b
   unfolding node_of is_touched
-  lerp_touched h = rw (lerp_told ∙ eq-eqb _ _ h, e)
+  lerp_touched h = rw (is_lerp_lem plan s i e h, e)
+
+  pub lerp_no_clip : n.kind ≡ kind.Lerp → is_clip plan s i ≡ false
+  lerp_no_clip h = no_clip plan s i e (λ k. absurd cc)
 
   pub touched_inputs : is_touched plan s i ≡ true → (is_clip plan s i ≡ false) × (is_clip plan s n.a ≡ true) × (is_clip plan s n.b ≡ true)
   unfolding node_of
   touched_inputs t = (touched_blends plan s i t, rw e (touched_a plan s i t), rw e (touched_b plan s i t))
 
-  pub plays_nothing : (n.kind ≡ 0 → ⊥) → plays_samples plan s i ≡ false
+  pub plays_nothing : (n.kind ≡ kind.Clip → ⊥) → false ≡ plays_samples plan s i
   unfolding plays_samples
-  plays_nothing h = rw (no_clip plan s i e h)
+  plays_nothing h = sym (rw (no_clip plan s i e h))
 
-  pub plays_told : n.kind ≡ 0 → {samples : ℕ} → samples ≡ sample_count plan n.a → plays_samples plan s i ≡ not (eqb samples 0)
+  pub plays_told : n.kind ≡ kind.Clip → {samples : ℕ} → samples ≡ sample_count plan n.a → not (eqb samples 0) ≡ plays_samples plan s i
   unfolding node_of plays_samples is_empty
-  plays_told h es = rw (is_clip_lem plan s i e h, es, e)
+  plays_told h es = sym (rw (is_clip_lem plan s i e h, es, e))
 
   -- the two inputs one after the other
   pub both_synchronized : (numbers parameters : List Float) (time la lb target : Float) (ka kb : ℕ) (x y z : List Float)

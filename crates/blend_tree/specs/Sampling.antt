@@ -7,10 +7,10 @@ use Rattle.model.specs.Pose.{lerp}
 use Rattle.model.specs.Plan.{max_clips, max_samples, clip_count, sample_count, is_stopping, samples_before, number, Rate}
 use Rattle.model.specs.Clips.{local_time, first_index, second_index, factor, sampled_position}
 use Rattle.layout.specs.declared.Layout.{Layout}
+use Rattle.layout.specs.declared.passed.Figure.{Figure}
 use Rattle.animation.specs.declared.Position.{Position}
 use Rattle.animation.specs.Sampling.{pose_from}
 use Rattle.blend_tree.specs.declared.sampling.Clip.{Clip}
-use Rattle.blend_tree.specs.Blocks.{Playable}
 
 unfoldable pub clip_of : List ℕ → List Float → ℕ → Clip
 clip_of plan numbers c = record { samples = sample_count plan c; before = samples_before plan c; stops = is_stopping plan c; rate = number plan numbers (Rate c) }
@@ -35,12 +35,10 @@ pose_start layout sample j = layout.poses_at + (sample * layout.joints + j) * 8
 unfoldable pub pose_between : List Float → Layout → Position → ℕ → Pose
 pose_between numbers layout p j = lerp (pose_from numbers (pose_start layout p.first j)) (pose_from numbers (pose_start layout p.second j)) p.factor
 
--- these are samples of a clip that has some, of a plan that passed with these numbers
-pub record Sampled (numbers : List Float) (layout : Layout) (samples : Position) : Type 0 where
-  pub plan : List ℕ
+-- these are samples of a clip of the figure that has some
+pub record Sampled (figure : Figure) (samples : Position) : Type 0 where
   pub c : ℕ
   pub position : Float
-  pub playable : Playable plan numbers layout
-  pub clip : c < clip_count plan
-  pub some : 0 < sample_count plan c
-  pub found : samples ≡ samples_at (clip_of plan numbers c) position
+  pub clip : c < clip_count figure.plan.words.now
+  pub some : 0 < sample_count figure.plan.words.now c
+  pub found : samples ≡ samples_at (clip_of figure.plan.words.now figure.numbers.now c) position

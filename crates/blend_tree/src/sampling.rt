@@ -1,11 +1,11 @@
 // Where a clip is sampled, and the pose there.
 ghost use Rattle.std.specs.Prelude.{◌≡◌, ◌<◌};
 ghost use Rattle.model.specs.Plan.{clip_count};
-ghost use Rattle.blend_tree.specs.Blocks.{Playable};
 ghost use Rattle.blend_tree.specs.Sampling.{clip_of, Sized, position_at, samples_at, pose_between, Sampled};
 
 use animation::{Position, local_time, pose_between, position_in, sampled_position};
-use layout::{Layout, is_stopping, pose_at, rate, sample_count, samples_before};
+use layout::passed::Figure;
+use layout::{pose_at, rate, samples_before};
 use model::{ClipInstance, Pose};
 
 // A clip of a plan: how many samples it has, how many the clips before it have, whether it stops, and its rate.
@@ -18,15 +18,16 @@ pub struct Clip {
 }
 
 // Reading a clip and sampling it are two functions, so that the compiler inlines both wherever they are called.
-pub fn clip_at(plan: &[u16], numbers: &[f32], layout: Layout, c: usize) -> Clip
-    requires { Playable plan.now numbers.now layout × (c < clip_count plan.now) }
-    ensures { result ≡ clip_of plan.now numbers.now c }
+pub fn clip_at(figure: &Figure<'_>, c: usize) -> Clip
+    requires { c < clip_count figure.now.plan.words.now }
+    ensures { result ≡ clip_of figure.now.plan.words.now figure.now.numbers.now c }
 {
+    let plan = &figure.plan;
     Clip {
-        samples: sample_count(plan, layout, c),
-        before: samples_before(plan, layout.joints, c),
-        stops: is_stopping(plan, layout, c),
-        rate: rate(numbers, c),
+        samples: plan.sample_count(c),
+        before: samples_before(plan.words, plan.layout.joints, c),
+        stops: plan.is_stopping(c),
+        rate: rate(figure.numbers, c),
     }
 }
 
@@ -53,12 +54,13 @@ pub fn clip_samples(clip: Clip, position: f32) -> Position
 }
 
 // A joint's pose between two such samples.
-pub fn joint_pose(numbers: &[f32], layout: Layout, samples: Position, joint: usize) -> Pose
-    requires { Sampled numbers.now layout samples × (joint < layout.joints) }
-    ensures { result ≡ pose_between numbers.now layout samples joint }
+pub fn joint_pose(figure: &Figure<'_>, samples: Position, joint: usize) -> Pose
+    requires { Sampled figure.now samples × (joint < figure.now.plan.layout.joints) }
+    ensures { result ≡ pose_between figure.now.numbers.now figure.now.plan.layout samples joint }
 {
+    let layout = figure.plan.layout;
     pose_between(
-        numbers,
+        figure.numbers,
         pose_at(layout, samples.first, joint),
         pose_at(layout, samples.second, joint),
         samples.factor,

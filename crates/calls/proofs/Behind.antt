@@ -19,7 +19,7 @@ use Rattle.model.specs.Text.{Field, none, field, field_in, begins}
 use Rattle.fields.specs.Wide.{wide_bits_in}
 use Rattle.calls.specs.CallText.{CallLine, malformed, line, behind_comma, behind_field, bits_field, decimal_field}
 use Rattle.calls.specs.CallText.{line_end, time_line, set_line, frame_line, loops_line, Kind, named, line_in, call_in}
-use Rattle.calls.specs.Read.{call_placed, call_at}
+use Rattle.calls.specs.Read.{call_placed, call_at, end_of}
 
 -- a text's rear part
 record Rear (s rest : List ℕ) : Type 0 where
@@ -142,9 +142,9 @@ rear_place s k = go (leb k (length s)) refl
         drop_of_length-le s none ∙ sym (drop_of_length-le s {i = k} (omega arith))
 
 pub text_behind : (text : List ℕ) (at : ℕ) {c : Call} {rest : List ℕ} → call_in (drop at text) ≡ line c rest
-    → drop (call_at text at).end text ≡ rest
+    → drop (end_of (call_at text at)) text ≡ rest
 unfolding call_placed
 text_behind text at {c} {rest} e = go (rw e at (call_rear (drop at text)))
   where
-    go : LineRear (drop at text) (line c rest) → drop (call_at text at).end text ≡ rest
+    go : LineRear (drop at text) (line c rest) → drop (end_of (call_at text at)) text ≡ rest
     go (a_line h) = let r = rear_of (dropped text at) h in rw (e, r.is) (rear_place text r.from)

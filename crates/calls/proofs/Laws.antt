@@ -1,47 +1,21 @@
--- Lists of calls: what a line and a list that were read tell, and the laws of the loops over a list. Assumes nothing.
+-- Lists of calls: what a list that was read tells, and the laws of the loop over its lines. Assumes nothing.
 use Prim.Native.Nat.{ℕ, zero, suc, ◌+◌, ◌-◌, ◌≤◌, ◌<◌}
 use native.Mathlib.Nat.{sub-zero, sub_self}
-use native.Mathlib.Numerals.{add-one}
 use native.Mathlib.Omega.{arith}
-use mathlib.Core.Path.{◌≡◌, refl, sym, ◌∙◌}
+use mathlib.Core.Path.{◌≡◌, refl, sym}
 use mathlib.Core.Bool.{Bool, true, false, cond}
 use mathlib.Core.List.{List, [], ◌∷◌}
 use lib.Dec.{eqb}
-use lib.ListN.{length, get_or, drop, length-drop, drop_of_length-le}
-use lib.Seq.{drop-cons}
+use lib.ListN.{length, drop, length-drop}
 use borrow.Author.Tests.{eq-eqb, ne_eqb}
+use Rattle.std.specs.Prelude.{nat_eq, count_by, Option, Some, None, Result, Ok, Err}
+use Rattle.std.proofs.lemmas.List.Recursion.{is_count_by}
 use Rattle.model.specs.Run as Run
 use Rattle.model.specs.Text.{line_feed}
-use Rattle.calls.specs.declared.Call.{Call}
-use Rattle.calls.specs.declared.Call.TheVariants.{Malformed, Update, Speed, Set, Frame, Loops}
 use Rattle.calls.specs.declared.CallAt.{CallAt}
+use Rattle.calls.specs.declared.Malformed.{Malformed}
 use Rattle.calls.specs.CallText.{CallLine, malformed, line, call_in, CallList, bad_line, calls, with_call, line_then, read_calls, line_count, call_list}
-use Rattle.calls.specs.Read.{line_of, is_malformed, line_read, first_malformed}
-use Rattle.calls.proofs.LineLaws.{malformed_read, call_spends}
-
--- ---- what the program's call stands for
-
-is_malformed_lem : (call : Call) → is_malformed call ≡ true → call ≡ Malformed
-is_malformed_lem Malformed e = refl
-is_malformed_lem (Update d) e = cc
-is_malformed_lem (Speed v) e = cc
-is_malformed_lem (Set n v) e = cc
-is_malformed_lem (Frame kind ext n) e = cc
-is_malformed_lem (Loops s n t) e = cc
-
--- a call that is not malformed is one of the text's
-pub record Called (call : Call) : Type 0 where
-  pub means : Run.Call
-  pub reading : (rest : List ℕ) → line_of call rest ≡ line means rest
-
-pub called : (call : Call) → is_malformed call ≡ false → Called call
-unfolding line_of
-called Malformed e = absurd (let z : ◌≡◌ {A = ℕ} 0 1 = cc in omega arith)
-called (Update d) e = record { means = Run.Update d; reading = λ rest. refl }
-called (Speed v) e = record { means = Run.Speed v; reading = λ rest. refl }
-called (Set n v) e = record { means = Run.Set n v; reading = λ rest. refl }
-called (Frame kind ext n) e = record { means = Run.Frame kind ext n; reading = λ rest. refl }
-called (Loops s n t) e = record { means = Run.Loops s n t; reading = λ rest. refl }
+use Rattle.calls.specs.Read.{line_read, first_malformed, checked}
 
 -- ---- a list, from its front on
 
@@ -108,81 +82,77 @@ well_formed text e = at (read_calls (line_count text) text) refl e
     at (bad_line m) h e = absurd (omega (arith, bad_counted (line_count text) text h))
     at (calls cs) h e = record { list = cs; reading = refl }
 
+-- the check's answer names the first malformed line, or there is none
+pub checked_bad : (lines : ℕ) (l : CallList) {e : Malformed} → checked lines l ≡ Err e → (e.line ≡ first_malformed l) × (e.lines ≡ lines)
+unfolding checked first_malformed
+checked_bad lines (bad_line n) e = (cc, cc)
+checked_bad lines (calls cs) e = absurd (let z : ◌≡◌ {A = ℕ} 0 1 = cc in omega arith)
+
+pub checked_good : (lines : ℕ) (l : CallList) {n : ℕ} → checked lines l ≡ Ok n → (first_malformed l ≡ 0) × (n ≡ lines)
+unfolding checked first_malformed
+checked_good lines (bad_line n) e = absurd (let z : ◌≡◌ {A = ℕ} 0 1 = cc in omega arith)
+checked_good lines (calls cs) e = (refl, cc)
+
 -- ---- the loop over the lines of a list
 
--- the first malformed line of a list, with i lines before it
-abbrev pub numbered : ℕ → CallList → ℕ
-numbered i (bad_line n) = i + n
-numbered i (calls cs) = 0
+-- what checking a list gives, with i lines before it
+abbrev pub checked_behind : ℕ → ℕ → CallList → Result ℕ Malformed
+checked_behind lines i (bad_line n) = Err (record { line = i + n; lines = lines })
+checked_behind lines i (calls cs) = Ok lines
 
-numbered_none : (l : CallList) → first_malformed l ≡ numbered 0 l
-unfolding first_malformed
-numbered_none (bad_line n) = omega arith
-numbered_none (calls cs) = refl
+checked_front : (lines : ℕ) (l : CallList) → checked lines l ≡ checked_behind lines 0 l
+unfolding checked
+checked_front lines (bad_line n) = let e : 0 + n ≡ n = omega arith in rw e
+checked_front lines (calls cs) = refl
 
-numbered_more : (i : ℕ) (c : Run.Call) (l : CallList) → numbered i (with_call c l) ≡ numbered (i + 1) l
+checked_more : (lines i : ℕ) (c : Run.Call) (l : CallList) → checked_behind lines i (with_call c l) ≡ checked_behind lines (i + 1) l
 unfolding with_call
-numbered_more i c (bad_line n) = omega arith
-numbered_more i c (calls cs) = refl
+checked_more lines i c (bad_line n) = let e : i + suc n ≡ i + 1 + n = omega arith in rw e
+checked_more lines i c (calls cs) = refl
 
--- the first i of a number of lines are calls, each of a byte or more, and `at` is behind them
+-- the first i of a number of lines are calls, and `at` is behind them
 pub record Passed (text : List ℕ) (lines at i : ℕ) : Type 0 where
-  pub most : i ≤ lines
-  pub bytes : i ≤ at
-  pub reading : first_malformed (read_calls lines text) ≡ numbered i (read_calls (lines - i) (drop at text))
+  pub reading : checked lines (read_calls lines text) ≡ checked_behind lines i (read_calls (lines - i) (drop at text))
 
 pub none_passed : (text : List ℕ) (lines : ℕ) → Passed text lines 0 0
-none_passed text lines = record { most = omega arith; bytes = omega arith; reading = rw sub-zero (numbered_none _) }
+none_passed text lines = record { reading = rw sub-zero (checked_front _ _) }
 
 module _ {text : List ℕ} {lines at i : ℕ} (passed : Passed text lines at i) where
-  module _ (below : i < lines) (r : CallAt) (here : line_read text r ≡ call_in (drop at text)) where
-    opened : first_malformed (read_calls lines text) ≡ numbered i (line_then (line_read text r) (read_calls (lines - (i + 1))))
+  module _ (below : i < lines) (r : Option CallAt) (here : line_read text r ≡ call_in (drop at text)) where
+    opened : checked lines (read_calls lines text) ≡ checked_behind lines i (line_then (line_read text r) (read_calls (lines - (i + 1))))
     unfolding read_calls
     opened =
         let e : lines - i ≡ suc (lines - (i + 1)) = omega arith in
         rw (passed.reading, e, here)
 
-    pub line_bad : is_malformed r.call ≡ true → i + 1 ≡ first_malformed (read_calls lines text)
-    unfolding line_then
-    line_bad e = rw (opened, malformed_read text r (is_malformed_lem r.call e))
-
-    pub line_passed : is_malformed r.call ≡ false → Passed text lines r.end (i + 1)
+    pub line_bad : r ≡ None → checked lines (read_calls lines text) ≡ Err (record { line = i + 1; lines = lines })
     unfolding line_read line_then
-    line_passed e =
-        let c = called r.call e in
-        let l : line_read text r ≡ line c.means (drop r.end text) = c.reading (drop r.end text) in
-        let spent = call_spends (drop at text) c.means (drop r.end text) (sym here ∙ l) in
-        record {
-          most = omega arith;
-          bytes = omega (arith, length-drop at text, length-drop r.end text);
-          reading = rw (opened, l, numbered_more);
-        }
+    line_bad e = rw (opened, e)
 
-  module _ (done : lines ≤ i) where
-    ended : first_malformed (read_calls lines text) ≡ numbered lines (read_calls zero (drop at text))
+    pub line_passed : {x : CallAt} → r ≡ Some x → Passed text lines x.end (i + 1)
+    unfolding line_read line_then
+    line_passed e = record { reading = rw (opened, e, checked_more) }
+
+  module _ (done : lines ≤ i) (most : i ≤ lines) where
+    ended : checked lines (read_calls lines text) ≡ checked_behind lines lines (read_calls zero (drop at text))
     ended =
         let e : i ≡ lines = omega arith in
         rw (e, sub_self) at passed.reading
 
-    pub text_left : at < length text → lines + 1 ≡ first_malformed (read_calls lines text)
+    pub text_left : at < length text → Err (record { line = lines + 1; lines = lines }) ≡ checked lines (read_calls lines text)
     unfolding read_calls
     text_left h = rw (ended, ne_eqb (length (drop at text)) 0 (λ e. omega (arith, length-drop at text)))
 
-    pub text_ended : length text ≤ at → 0 ≡ first_malformed (read_calls lines text)
+    pub text_ended : length text ≤ at → Ok lines ≡ checked lines (read_calls lines text)
     unfolding read_calls
     text_ended h = rw (ended, eq-eqb (length (drop at text)) 0 (omega (arith, length-drop at text)))
 
 -- ---- counting lines
 
-module _ (s : List ℕ) (i : ℕ) where
-  pub count_line : i < length s → get_or s i 0 ≡ line_feed → line_count (drop i s) ≡ 1 + line_count (drop (i + 1) s)
-  unfolding line_count
-  count_line h e = rw (add-one i, drop-cons s i 0 h, eq-eqb _ line_feed e)
+counts : (t : Bool) (n : ℕ) → cond t 1 0 + n ≡ cond t (1 + n) n
+counts true n = refl
+counts false n = omega arith
 
-  pub count_byte : i < length s → (get_or s i 0 ≡ line_feed → ⊥) → line_count (drop i s) ≡ line_count (drop (i + 1) s)
-  unfolding line_count
-  count_byte h e = rw (add-one i, drop-cons s i 0 h, ne_eqb _ line_feed e) (omega arith)
-
-  pub count_end : length s ≤ i → line_count (drop i s) ≡ 0
-  unfolding line_count
-  count_end h = rw (drop_of_length-le s {i = i} h)
+pub count_lines : (s : List ℕ) → line_count s ≡ count_by (λ b. nat_eq b line_feed) s
+unfolding line_count
+count_lines = is_count_by line_count (λ b. nat_eq b line_feed) refl (λ b s. counts (eqb b line_feed) (line_count s))

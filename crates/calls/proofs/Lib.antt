@@ -1,3 +1,3 @@
-pub mod LineLaws
 pub mod Behind
+pub mod LineLaws
 pub mod Laws

@@ -1,188 +1,154 @@
 -- One line of a list of calls: its fields, its name, and the text that it uses up. Assumes nothing.
-use Prim.Native.Nat.{ℕ, ◌+◌, ◌^◌, ◌≤◌, ◌<◌}
+use Prim.Native.Nat.{ℕ, ◌-◌, ◌^◌, ◌≤◌, ◌<◌}
 use native.Mathlib.Omega.{arith}
 use mathlib.Core.Path.{◌≡◌, refl, sym, ap, ◌∙◌}
-use mathlib.Core.Bool.{Bool, true, false, cond}
+use mathlib.Core.Bool.{Bool, true, false, cond, ◌&&◌}
 use mathlib.Core.List.{List, [], ◌∷◌}
 use lib.Dec.{eqb}
-use lib.ListN.{length, get_or, drop, length-drop, drop_of_length-le}
+use lib.ListN.{length, drop, length-drop}
 use lib.Ieee.{Float}
 use lib.Seq.{drop-drop}
-use borrow.Author.Tests.{eq-eqb, ne_eqb, eqb-true}
+use borrow.Author.Tests.{eqb-true}
+use Rattle.std.specs.Bool.{then_some}
+use Rattle.std.specs.Prelude.{Option, Some, None}
 use Rattle.model.specs.declared.FieldForm.{FieldForm}
 use Rattle.model.specs.declared.FieldForm.TheVariants.{Decimal, Bits}
 use Rattle.model.specs.declared.FrameKind.{FrameKind}
 use Rattle.model.specs.declared.FrameKind.TheVariants.{Ordinary, Page}
 use Rattle.model.specs.Run as Run
-use Rattle.model.specs.Text as Text
-use Rattle.model.specs.Text.{front, comma, line_feed, digit_count, numeral, max_word, is_field, none, field, field_in, begins}
+use Rattle.model.specs.Text.{front, comma, line_feed, digit_count, numeral, max_word, Field, none, field, field_in, begins}
 use Rattle.model.proofs.Laws.Text.{field_law}
-use Rattle.fields.specs.declared.Field.{Field}
-use Rattle.fields.specs.declared.Field.TheVariants.{Value, Nothing}
-use Rattle.fields.specs.Found.{found, field_at}
-use Rattle.fields.specs.Wide.{wide_bits_in, wide_bits_at}
-use Rattle.fields.proofs.Bytes.{there, front_at}
-use Rattle.fields.proofs.Laws.{field_found, wide_found}
+use Rattle.fields.specs.declared.Field as Found
+use Rattle.fields.specs.Found.{found}
+use Rattle.fields.specs.Wide.{wide_bits_in}
+use Rattle.fields.proofs.Bytes.{there}
 use Rattle.calls.specs.declared.Call.{Call}
-use Rattle.calls.specs.declared.Call.TheVariants.{Malformed, Update, Speed, Set, Frame, Loops}
+use Rattle.calls.specs.declared.Call.TheVariants.{Update, Speed, Set, Frame, Loops}
 use Rattle.calls.specs.declared.CallAt.{CallAt}
+use Rattle.calls.specs.declared.Cursor.{Cursor}
 use Rattle.calls.specs.CallText.{CallLine, malformed, line, behind_comma, behind_field, wide_field, bits_field, decimal_field}
 use Rattle.calls.specs.CallText.{line_end, time_line, set_line, frame_line, loops_line, Kind, named, kinds, line_in, call_in}
-use Rattle.calls.specs.Read.{timed_call, time_of, behind, line_of, line_end_of, is_malformed, line_read, as_call, no_call, call_placed, call_at, CallRead}
+use Rattle.calls.specs.Read.{call_of, as_call, line_read, call_placed, call_at, CallRead, left, Skipped, Stepped}
 
 -- ---- fields
 
-module _ (text : List ℕ) (at : ℕ) {b : ℕ} (is : b ≡ get_or text at 0) where
-  pub no_comma : (b ≡ comma → ⊥) → drop (length text) text ≡ behind (drop at text)
-  unfolding behind
-  no_comma h = rw (front_at text at is, ne_eqb b comma h) (drop_of_length-le text {i = length text} (omega arith))
+single : (t b : Bool) → t && true ≡ b → t ≡ b
+single true b e = e
+single false b e = e
 
-  pub behind_comma_lem : b ≡ comma → drop (at + 1) text ≡ behind (drop at text)
-  unfolding behind
-  behind_comma_lem h = rw (front_at text at is, eq-eqb b comma h, drop-drop 1 at text)
+comma_read : (read : List ℕ → Field) (s : List ℕ) → begins (comma ∷ []) s ≡ true → behind_comma read s ≡ read (drop 1 s)
+unfolding behind_comma begins
+comma_read read s e = rw (single (eqb (front s) comma) true e)
 
-  pub no_line_feed : (call : Call) → (b ≡ line_feed → ⊥) → malformed ≡ line_end_of call (drop at text)
-  unfolding line_end_of
-  no_line_feed call h = rw (front_at text at is, ne_eqb b line_feed h)
+no_comma : (read : List ℕ → Field) (s : List ℕ) → false ≡ begins (comma ∷ []) s → behind_comma read s ≡ none
+unfolding behind_comma begins
+no_comma read s e = rw (single (eqb (front s) comma) false (sym e))
 
-  pub line_feed_lem : (call : Call) → b ≡ line_feed → line_of call (drop (at + 1) text) ≡ line_end_of call (drop at text)
-  unfolding line_end_of
-  line_feed_lem call h = rw (front_at text at is, eq-eqb b line_feed h, drop-drop 1 at text)
+-- behind some bytes
+left_behind : {bytes : List ℕ} {before after : Cursor} → Skipped bytes before after true → left after ≡ drop (length bytes) (left before)
+left_behind over = rw (over.place, drop-drop)
 
--- a field behind a comma, where none is read from nothing
-comma_read : (read : List ℕ → Text.Field) → read [] ≡ none → (text : List ℕ) (at place : ℕ) → drop place text ≡ behind (drop at text)
-    → read (drop place text) ≡ behind_comma read (drop at text)
-unfolding behind behind_comma
-comma_read read nothing text at place e = ap read e ∙ go (eqb (front (drop at text)) comma)
-  where
-    go : (t : Bool) → read (cond t (drop 1 (drop at text)) []) ≡ cond t (read (drop 1 (drop at text))) none
-    go true = refl
-    go false = nothing
+-- no comma, or a field that was read behind it
+pub no_field_stepped : {A : Type 0} {form : ℕ → A} (read : List ℕ → Field) {before after : Cursor} → Skipped (comma ∷ []) before after false
+    → Stepped form (behind_comma read (left before)) before after None
+no_field_stepped read {before = before} past = record { text = rw past.place; value = no_comma read (left before) past.test }
 
-no_wide_bits : wide_bits_in [] ≡ none
-unfolding wide_bits_in digit_count
-no_wide_bits = refl
+pub field_stepped : {A : Type 0} {form : ℕ → A} (read : List ℕ → Field) {before middle after : Cursor} {f : Field} {r : Option A}
+    → Skipped (comma ∷ []) before middle true → f ≡ read (left middle) → Stepped form f middle after r
+    → Stepped form (behind_comma read (left before)) before after r
+field_stepped read {before = before} over is step =
+    let here = comma_read read (left before) (sym over.test) in
+    record { text = rw over.place at step.text; value = rw (here, ← left_behind over, ← is) step.value }
 
-pub wide_read : (text : List ℕ) (at place : ℕ) {r : Field} → drop place text ≡ behind (drop at text) → r ≡ wide_bits_at text place → found text r ≡ wide_field (drop at text)
-wide_read text at place b e = wide_found text place e ∙ comma_read wide_bits_in no_wide_bits text at place b
+-- a field as its reader has it
+module _ (here : Cursor) where
+  pub found_none : Stepped (λ v. v) (found here.text.now None) here here None
+  unfolding found
+  found_none = record { text = refl; value = refl }
 
-nothing_read : (form : FieldForm) → field_in form [] ≡ none
-unfolding field_in is_field digit_count
-nothing_read (Decimal limit) = refl
-nothing_read Bits = refl
+  pub found_some : (f : Found.Field) → Stepped (λ v. v) (found here.text.now (Some f)) here (record { text = here.text; at = f.end }) (Some f.value)
+  unfolding found
+  found_some f = record { text = refl; value = (f.value, refl, refl) }
 
-pub field_read : (form : FieldForm) (text : List ℕ) (at place : ℕ) {r : Field} → drop place text ≡ behind (drop at text) → r ≡ field_at form text place
-    → found text r ≡ behind_comma (field_in form) (drop at text)
-field_read form text at place b e = field_found form text place e ∙ comma_read (field_in form) (nothing_read form) text at place b
+-- the same in another form
+module _ {A : Type 0} (form : ℕ → A) {f : Field} {before after : Cursor} where
+  pub formed : {v : ℕ} {x : A} → Stepped (λ v. v) f before after (Some v) → x ≡ form v → Stepped form f before after (Some x)
+  formed step e = record { text = step.text; value = (step.value.0, e ∙ ap form step.value.1, step.value.2) }
+
+  pub none_formed : {r : Option A} → Stepped (λ v. v) f before after None → r ≡ None → Stepped form f before after r
+  none_formed step e = record { text = step.text; value = rw e step.value }
 
 -- ---- lines
 
-abbrev placed : Call → ℕ → CallAt
-placed call end = record { call = call; end = end }
+module _ {text : List ℕ} where
+  pub none_read : {l : CallLine} {r : Option CallAt} → r ≡ None → l ≡ malformed → CallRead text l r
+  unfolding line_read call_placed
+  none_read e m = record { value = rw (e, m); reading = rw (e, m) }
 
-abbrev call_of : CallAt → Call
-call_of r = r.call
+as_call_of : (call : Call) → as_call (call_of call) ≡ call
+unfolding as_call call_of
+as_call_of (Update delta) = refl
+as_call_of (Speed value) = refl
+as_call_of (Set n v) = refl
+as_call_of (Frame kind ext n) = refl
+as_call_of (Loops s n t) = refl
 
-abbrev end_of : CallAt → ℕ
-end_of r = r.end
+-- a line that ends with LF, and one that does not
+pub line_ends : (call : Call) {before after : Cursor} (r : Bool) → Skipped (line_feed ∷ []) before after r
+    → CallRead before.text.now (line_end (call_of call) (left before)) (then_some r (record { call = call; end = after.at }))
+unfolding line_end begins line_read call_placed
+line_ends call {before} false past =
+    let is : line_end (call_of call) (left before) ≡ malformed = rw (single _ false (sym past.test)) in
+    none_read refl is
+line_ends call {before} {after} true over =
+    let rest : drop 1 (left before) ≡ drop after.at before.text.now = sym (left_behind over) ∙ rw over.place in
+    let is : line_end (call_of call) (left before) ≡ line (call_of call) (drop after.at before.text.now) = rw (single _ true (sym over.test), rest) in
+    let inside = over.inside refl in
+    let place : after.at ≡ length before.text.now - length (drop after.at before.text.now) = omega (arith, inside, length-drop after.at before.text.now) in
+    record { value = rw (is, as_call_of, ← place); reading = rw is }
 
-pub timed_well : (is_speed : Bool) (x : Float) → is_malformed (timed_call is_speed x) ≡ false
-timed_well true x = refl
-timed_well false x = refl
+-- a field of a line, with `more` behind it
+module _ {A : Type 0} {form : ℕ → A} {f : Field} {before after : Cursor} where
+  pub without : (more : ℕ → List ℕ → CallLine) → Stepped form f before after None → behind_field f more ≡ malformed
+  unfolding behind_field
+  without more step = rw step.value
 
-pub never : true ≡ false → ⊥
-never e = let z : ◌≡◌ {A = ℕ} 0 1 = cc in omega arith
-
--- the program's call for a time is the text's
-pub timed_is : (is_speed : Bool) (x : Float) (rest : List ℕ) → line_of (timed_call is_speed x) rest ≡ line (time_of is_speed x) rest
-unfolding line_of
-timed_is true x rest = refl
-timed_is false x rest = refl
-
-pub malformed_read : (text : List ℕ) (r : CallAt) → r.call ≡ Malformed → line_read text r ≡ malformed
-unfolding line_read line_of
-malformed_read text r e = rw e
-
-module _ {text : List ℕ} {l : CallLine} {r : CallAt} where
-  pub none_read : r ≡ no_call → malformed ≡ l → CallRead text l r
-  none_read e m =
-      record { reading = malformed_read text r (ap call_of e) ∙ m; inside = omega (arith, ap end_of e); nowhere = λ h. ap end_of e }
-
-  pub same_read : {m : CallLine} → CallRead text l r → l ≡ m → CallRead text m r
-  same_read c e = record { reading = c.reading ∙ e; inside = c.inside; nowhere = c.nowhere }
-
--- what is read of a line is the call at its place
-module _ (text : List ℕ) where
-  there_and_back : (call : Call) (end : ℕ) → end ≤ length text → (is_malformed call ≡ true → end ≡ 0)
-      → ◌≡◌ {A = CallAt} (record { call = call; end = end }) (call_placed text (line_of call (drop end text)))
-  unfolding call_placed line_of as_call
-  there_and_back Malformed end inside nowhere = ap (placed Malformed) (nowhere refl)
-  there_and_back (Update delta) end inside nowhere = ap (placed (Update delta)) (omega (arith, length-drop end text))
-  there_and_back (Speed value) end inside nowhere = ap (placed (Speed value)) (omega (arith, length-drop end text))
-  there_and_back (Set n v) end inside nowhere = ap (placed (Set n v)) (omega (arith, length-drop end text))
-  there_and_back (Frame kind ext n) end inside nowhere = ap (placed (Frame kind ext n)) (omega (arith, length-drop end text))
-  there_and_back (Loops s n t) end inside nowhere = ap (placed (Loops s n t)) (omega (arith, length-drop end text))
-
-  -- the line at a place, as a call and by what it says: what `call_at` promises of its result
-  abbrev pub There : ℕ → CallAt → Type 0
-  There at r = record { value : r ≡ call_at text at; result_value : line_read text r ≡ call_in (drop at text) }
-
-  call_there : (at : ℕ) {r : CallAt} → CallRead text (call_in (drop at text)) r → There at r
-  unfolding line_read
-  call_there at {r} c = record { value = there_and_back r.call r.end c.inside c.nowhere ∙ ap (call_placed text) c.reading; result_value = c.reading }
-
--- a line l whose next field was read to f, with `more` behind it
-module _ (text : List ℕ) {f : Field} {s : Text.Field} (more : ℕ → List ℕ → CallLine) {l : CallLine} (is : behind_field s more ≡ l) (read : found text f ≡ s) where
-  pub without : f ≡ Nothing → malformed ≡ l
-  unfolding found behind_field
-  without e = rw (← is, ← read, e)
-
-  pub with_value : {v end : ℕ} → f ≡ Value v end → more v (drop end text) ≡ l
-  unfolding found behind_field
-  with_value e = rw (← is, ← read, e)
-
--- the program's call is the text's
-pub ends : (call : Call) {c : Run.Call} → ((rest : List ℕ) → line_of call rest ≡ line c rest) → (s : List ℕ) → line_end_of call s ≡ line_end c s
-unfolding line_end_of line_end
-ends call is s = rw (is (drop 1 s))
+  pub with_value : {x : A} (more : A → List ℕ → CallLine) {r : Option CallAt} → Stepped form f before after (Some x)
+      → CallRead after.text.now (more x (left after)) r → CallRead before.text.now (behind_field f (λ v. more (form v))) r
+  unfolding behind_field
+  with_value more step read = rw (step.value.2, ← step.value.1, ← step.text) read
 
 -- ---- names
 
--- what looking for a name gives: its length, if it stands there
-abbrev pub Looked : List ℕ → List ℕ → ℕ → ℕ → Type 0
-Looked name text at r = r ≡ cond (begins name (drop at text)) (length name) 0
+-- the line at a place of a text, where the cursor stands, is of one of these kinds: the names of others do not stand there
+pub record Among (text : List ℕ) (at : ℕ) (kinds : List Kind) (here : Cursor) : Type 0 where
+  pub text_same : here.text.now ≡ text
+  pub line : line_in kinds (left here) ≡ call_in (drop at text)
 
-is_there : (t : Bool) (n r : ℕ) → r ≡ cond t n 0 → 0 < r → (t ≡ true) × (r ≡ n)
-is_there true n r is some = (refl, is)
-is_there false n r is some = absurd (omega arith)
+-- what `call_at` promises of its result
+abbrev pub There : List ℕ → ℕ → Option CallAt → Type 0
+There text at r = record { value : r ≡ call_at text at; result_value : line_read text r ≡ call_in (drop at text) }
 
-is_absent : (t : Bool) (n r : ℕ) → r ≡ cond t n 0 → 0 < n → r ≤ 0 → t ≡ false
-is_absent true n r is some nothing = absurd (omega arith)
-is_absent false n r is some nothing = refl
-
--- the line at a place is of one of these kinds: the names of others do not stand there
-pub record Among (text : List ℕ) (at : ℕ) (kinds : List Kind) : Type 0 where
-  pub line : line_in kinds (drop at text) ≡ call_in (drop at text)
-
-pub of_any : (text : List ℕ) (at : ℕ) → Among text at kinds
+pub of_any : (here : Cursor) → Among here.text.now here.at kinds here
 unfolding call_in
-of_any text at = record { line = refl }
+of_any here = record { text_same = refl; line = refl }
 
-module _ {text : List ℕ} {at r : ℕ} {name : List ℕ} {behind : List ℕ → CallLine} {others : List Kind} (among : Among text at (named name behind ∷ others))
-    (looked : Looked name text at r) where
-  pub of_this : {c : CallAt} → 0 < r → CallRead text (behind (drop (at + r) text)) c → There text at c
+module _ {text : List ℕ} {at : ℕ} {name : List ℕ} {behind : List ℕ → CallLine} {others : List Kind} {before after : Cursor}
+    (among : Among text at (named name behind ∷ others) before) where
+  pub of_this : {r : Option CallAt} → Skipped name before after true → CallRead after.text.now (behind (left after)) r → There text at r
   unfolding line_in
-  of_this some read =
-      let e = is_there (begins name (drop at text)) _ r looked some in
-      call_there text at (same_read read (rw (← among.line, e.1, e.0, drop-drop)))
+  of_this over read =
+      let here : behind (left after) ≡ call_in (drop at text) = rw (left_behind over) (rw (← over.test) at among.line) in
+      let same : after.text.now ≡ text = rw over.place among.text_same in
+      record { value = read.value ∙ cc; result_value = cc }
 
-  pub of_another : 0 < length name → r ≤ 0 → Among text at others
+  pub of_another : Skipped name before after false → Among text at others after
   unfolding line_in
-  of_another some nothing = record { line = rw (is_absent (begins name (drop at text)) _ r looked some nothing) at among.line }
+  of_another past = record { text_same = rw past.place among.text_same; line = rw past.place (rw (← past.test) at among.line) }
 
-pub of_none : {text : List ℕ} {at : ℕ} {c : CallAt} → Among text at [] → c ≡ no_call → There text at c
-unfolding line_in
-of_none {text} {at} among e = call_there text at (none_read e among.line)
+pub of_none : {text : List ℕ} {at : ℕ} {here : Cursor} → Among text at [] here → There text at None
+unfolding line_in line_read call_placed
+of_none among = record { value = rw (← among.line); result_value = among.line }
 
 -- ---- a line uses up text
 
@@ -192,7 +158,7 @@ none_field e = let z : ◌≡◌ {A = ℕ} 0 1 = cc in omega arith
 malformed_line_lem : {c : Run.Call} {rest : List ℕ} → malformed ≡ line c rest → ⊥
 malformed_line_lem e = let z : ◌≡◌ {A = ℕ} 0 1 = cc in omega arith
 
-comma_field : (read : List ℕ → Text.Field) (s : List ℕ) {v : ℕ} {rest : List ℕ} → behind_comma read s ≡ field v rest → read (drop 1 s) ≡ field v rest
+comma_field : (read : List ℕ → Field) (s : List ℕ) {v : ℕ} {rest : List ℕ} → behind_comma read s ≡ field v rest → read (drop 1 s) ≡ field v rest
 unfolding behind_comma
 comma_field read s {v} {rest} e = at (eqb (front s) comma) e
   where
@@ -201,12 +167,12 @@ comma_field read s {v} {rest} e = at (eqb (front s) comma) e
     at false e = absurd (none_field e)
 
 -- the bits of a 32-bit float fit 32 bits
-pub bits_fit : (text s : List ℕ) {f : Field} {v end : ℕ} → found text f ≡ bits_field s → f ≡ Value v end → v < 2 ^ 32
-unfolding found
-bits_fit text s {f} {v} {end} read e = omega (arith, (field_law Bits (drop 1 s) v (drop end text) (comma_field (field_in Bits) s (sym read ∙ ap (found text) e))).most)
+pub bits_fit : {before after : Cursor} {v : ℕ} → Stepped (λ v. v) (bits_field (left before)) before after (Some v) → v < 2 ^ 32
+bits_fit {before = before} step =
+    omega (arith, step.value.1, (field_law Bits (drop 1 (left before)) _ _ (comma_field (field_in Bits) (left before) step.value.2)).most)
 
 -- what is left behind a field is not longer
-abbrev Keeps : (List ℕ → Text.Field) → Type 0
+abbrev Keeps : (List ℕ → Field) → Type 0
 Keeps read = (s : List ℕ) (v : ℕ) (rest : List ℕ) → read s ≡ field v rest → length rest ≤ length s
 
 wide_keeps : Keeps wide_bits_in
@@ -220,7 +186,7 @@ wide_keeps s v rest e = at (eqb (digit_count 16 s) 16) e
 field_keeps : (form : FieldForm) → Keeps (field_in form)
 field_keeps form s v rest e = omega (arith, (field_law form s v rest e).spent)
 
-comma_keeps : (read : List ℕ → Text.Field) → Keeps read → Keeps (behind_comma read)
+comma_keeps : (read : List ℕ → Field) → Keeps read → Keeps (behind_comma read)
 comma_keeps read keeps s v rest e = omega (arith, length-drop 1 s, keeps (drop 1 s) v rest (comma_field read s e))
 
 -- what is left behind a line is shorter
@@ -238,11 +204,11 @@ end_spends call s c rest e = at (eqb (front s) line_feed) refl e
         omega (arith, length-drop 1 s, ap length p, there s 0 (omega arith))
     at false t e = absurd (malformed_line_lem e)
 
-then_spends : (read : List ℕ → Text.Field) (more : ℕ → List ℕ → CallLine) → Keeps read → ((v : ℕ) → Spends (more v)) → Spends (λ s. behind_field (read s) more)
+then_spends : (read : List ℕ → Field) (more : ℕ → List ℕ → CallLine) → Keeps read → ((v : ℕ) → Spends (more v)) → Spends (λ s. behind_field (read s) more)
 unfolding behind_field
 then_spends read more keeps spends s c rest e = at (read s) refl e
   where
-    at : (f : Text.Field) → read s ≡ f → behind_field f more ≡ line c rest → length rest < length s
+    at : (f : Field) → read s ≡ f → behind_field f more ≡ line c rest → length rest < length s
     at none h e = absurd (malformed_line_lem e)
     at (field v left) h e = omega (arith, keeps s v left h, spends v left c rest e)
 

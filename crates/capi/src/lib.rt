@@ -14,8 +14,8 @@ ghost use Rattle.capi.specs.PlayerSize.{player_bytes};
 
 use host_loops::{HostLoops, host_loops};
 use host_player::{
-    HostAnswer, HostParts, HostPlayer, HostTextAnswer, host_frame, host_text_answer, parameter_set,
-    started, updated, with_speed,
+    HostAnswer, HostParts, HostPlayer, HostTextAnswer, host_frame, parameter_set, started, updated,
+    with_speed,
 };
 use host_uses::{HostUses, host_uses};
 use layout::{JOINT_COUNT_AT, MAX_PLAN, word};
@@ -78,32 +78,25 @@ fn frame_in_place(
     ensures { HostFramed kind plan.now numbers.now player.old ext
         output.old output.new player.new result }
 {
-    let parts = HostParts {
-        clock: (*player).clock,
-        speed: (*player).speed,
-        state: (*player).state,
-        running: (*player).running,
-        start: (*player).start,
-        target: (*player).target,
-        duration: (*player).duration,
-    };
+    let parts = HostParts::from(&*player);
     let frame = host_frame(
         kind,
         plan,
         numbers,
         parts,
-        &(*player).parameters,
-        &mut (*player).instances,
+        &player.parameters,
+        &mut player.instances,
         ext,
         output,
     );
-    (*player).clock = frame.parts.clock;
-    (*player).speed = frame.parts.speed;
-    (*player).state = frame.parts.state;
-    (*player).running = frame.parts.running;
-    (*player).start = frame.parts.start;
-    (*player).target = frame.parts.target;
-    (*player).duration = frame.parts.duration;
+    // Stored one by one, since the arrays beside them stay where they are.
+    player.clock = frame.parts.clock;
+    player.speed = frame.parts.speed;
+    player.state = frame.parts.state;
+    player.running = frame.parts.running;
+    player.start = frame.parts.start;
+    player.target = frame.parts.target;
+    player.duration = frame.parts.duration;
     frame.answer
 }
 
@@ -171,7 +164,7 @@ pub extern "C" fn gentianlathe_read_text(
     ensures { HostTextRead text.now plan.old plan.new
         numbers.old numbers.new result }
 {
-    host_text_answer(text::read(text, plan, numbers))
+    HostTextAnswer::from(text::read(text, plan, numbers))
 }
 
 // ---- sizes

@@ -7,10 +7,11 @@ use mathlib.Core.Path.{◌≡◌, sym, ap, ◌∙◌}
 use mathlib.Core.List.{List, ◌∷◌, ◌++◌}
 use lib.ListN.{length, set, replicate}
 use lib.Ieee.{Float}
-use Rattle.model.specs.declared.Answer.{Answer}
+use Rattle.std.specs.Prelude.{Result, Ok, Err}
 use Rattle.model.specs.declared.Player.{Player}
 use Rattle.model.specs.declared.Refusal.{Refusal}
 use Rattle.model.specs.Answers.{values, unless_refused}
+use Rattle.model.specs.Check.{check}
 use Rattle.model.specs.Plan.{max_parameters, max_clip_nodes, state_count}
 use Rattle.model.specs.Numbers.{0f, 1f}
 use Rattle.model.specs.Clips.{blank_instances}
@@ -21,10 +22,6 @@ use Rattle.model.specs.Promises.{Started}
 use Rattle.layout.specs.declared.Layout.{Layout}
 use Rattle.layout.specs.declared.StateLayout.{StateLayout}
 use Rattle.layout.specs.Layout.{layout_of, state_layout}
-use Rattle.plan.specs.declared.Checked.{Checked}
-use Rattle.plan.specs.declared.Checked.TheVariants as checked
-use Rattle.plan.specs.Checked.{verdict, PlanChecked}
-use Rattle.blend_tree.specs.Blocks.{Playable}
 
 -- ---- blank instances
 
@@ -48,17 +45,17 @@ pub one_more_state : (plan : List ℕ) (numbers parameters : List Float) (s : �
 unfolding state_layout synchronize_states
 one_more_state plan numbers parameters s here first before after e z b a = rw (a, e, z, b, add-one s)
 
-pub fresh_made : (plan : List ℕ) (numbers : List Float) (l : Layout) → Playable plan numbers l → (b : Player) → b ≡ blank → (after : List Float)
+pub fresh_made : (plan : List ℕ) (numbers : List Float) (l : Layout) → l ≡ layout_of plan → (b : Player) → b ≡ blank → (after : List Float)
     → after ≡ synchronize_states plan numbers (state_count plan) b.instances → with_instances (with_state b l.initial) after ≡ fresh plan numbers
 unfolding fresh layout_of
-fresh_made plan numbers l ok b e after a = rw (a, e, ok.found)
+fresh_made plan numbers l found b e after a = rw (a, e, found)
 
 -- the check's answer is the start's
-module _ (plan : List ℕ) (numbers : List Float) (k : Checked) (done : PlanChecked plan (length numbers) k) (a : Answer) (told : values a ≡ verdict k) (q : Player) where
-  pub start_handed : (x : Refusal) → k ≡ checked.Refused x → q ≡ blank → Started plan numbers (record { answer = a; player = q })
-  unfolding verdict start_verdict start_player unless_refused
-  start_handed x e f = record { answer = told ∙ done.answer; player = rw (sym done.answer ∙ ap verdict e) f }
+module _ (plan : List ℕ) (numbers : List Float) {A : Type 0} (k : Result A Refusal) (done : values k ≡ check plan (length numbers)) (a : Result Unit Refusal) (told : values a ≡ values k) (q : Player) where
+  pub start_handed : (x : Refusal) → k ≡ Err x → q ≡ blank → Started plan numbers (record { answer = a; player = q })
+  unfolding values start_verdict start_player unless_refused
+  start_handed x e f = record { answer = told ∙ done; player = rw (sym done ∙ ap values e) f }
 
-  pub start_accepted : (l : Layout) → k ≡ checked.Passed l → q ≡ fresh plan numbers → Started plan numbers (record { answer = a; player = q })
-  unfolding verdict start_verdict start_player unless_refused
-  start_accepted l e f = record { answer = told ∙ done.answer; player = rw (sym done.answer ∙ ap verdict e) f }
+  pub start_accepted : (x : A) → k ≡ Ok x → q ≡ fresh plan numbers → Started plan numbers (record { answer = a; player = q })
+  unfolding values start_verdict start_player unless_refused
+  start_accepted x e f = record { answer = told ∙ done; player = rw (sym done ∙ ap values e) f }

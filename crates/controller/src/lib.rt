@@ -9,25 +9,20 @@ ghost use Rattle.model.specs.Plan.{max_parameters, max_clip_nodes, state_count};
 ghost use Rattle.model.specs.Clips.{blank_instances};
 ghost use Rattle.model.specs.Controller.{blank, fresh, synchronize_states};
 ghost use Rattle.model.specs.Promises.{Started, Updated, SpeedSet, ParameterSet, Framed};
-ghost use Rattle.blend_tree.specs.Blocks.{Playable};
-ghost use Rattle.frames.specs.Parts.{outcome_of};
 
-use blend_tree::synchronize::synchronize_state;
 use blend_tree::{SLOTS, StateAt};
-use frames::{FrameParts, Parts};
-use layout::{Layout, state_layout};
+use frames::Parts;
+use layout::passed::Figure;
 use model::limits::{INSTANCE_FLOATS, MAX_CLIP_NODES, MAX_INSTANCES, MAX_PARAMETERS};
-use model::{Answer, FrameKind, Outcome, Player, Transition, refused};
-use plan::{Checked, answer_of, check};
+use model::{FrameKind, Outcome, Player, Reason, Transition};
+use plan::{answer_of, figure};
 
 fn blank_instances() -> [f32; MAX_INSTANCES]
     ensures { result ≡ blank_instances max_clip_nodes }
 {
     let mut instances = [0.0f32; MAX_INSTANCES];
-    let mut n = 0;
-    while n < MAX_CLIP_NODES {
+    for n in 0..MAX_CLIP_NODES {
         instances[INSTANCE_FLOATS * n + 1] = 1.0;
-        n += 1;
     }
     instances
 }
@@ -35,14 +30,13 @@ fn blank_instances() -> [f32; MAX_INSTANCES]
 fn blank() -> Player
     ensures { result ≡ blank }
 {
-    let instances = blank_instances();
     Player {
         clock: 0.0,
         speed: 1.0,
         state: 0,
         transition: Transition::Idle,
         parameters: [0.0f32; MAX_PARAMETERS],
-        instances: instances,
+        instances: blank_instances(),
     }
 }
 
@@ -50,57 +44,50 @@ fn blank() -> Player
 
 // Every state once at time 0, with parameters that are all 0.
 fn synchronize_states(
-    plan: &[u16],
-    numbers: &[f32],
-    layout: Layout,
+    figure: &Figure<'_>,
     parameters: &[f32; MAX_PARAMETERS],
     instances: &mut [f32; MAX_INSTANCES],
 )
-    requires { Playable plan.now numbers.now layout × (parameters.now ≡ replicate max_parameters 0f) }
+    requires { parameters.now ≡ replicate max_parameters 0f }
     ensures { instances.new
-        ≡ synchronize_states plan.now numbers.now (state_count plan.now)
+        ≡ synchronize_states figure.now.plan.words.now figure.now.numbers.now
+        (state_count figure.now.plan.words.now)
         instances.old }
 {
     let mut slots = [0u8; SLOTS];
-    let mut s = 0;
-    while s < layout.states {
+    for s in 0..figure.plan.layout.states {
         let state = StateAt {
-            layout: layout,
-            here: state_layout(plan, layout, s),
+            figure: *figure,
+            here: figure.plan.state_layout(s),
             time: 0.0,
         };
-        synchronize_state(plan, numbers, state, parameters, &mut slots, instances);
-        s += 1;
+        state.synchronize(parameters, &mut slots, instances);
     }
 }
 
-fn fresh(plan: &[u16], numbers: &[f32], layout: Layout) -> Player
-    requires { Playable plan.now numbers.now layout }
-    ensures { result ≡ fresh plan.now numbers.now }
+fn fresh(figure: &Figure<'_>) -> Player
+    ensures { result ≡ fresh figure.now.plan.words.now figure.now.numbers.now }
 {
-    let mut player = blank();
-    player.state = layout.initial;
-    let parameters = player.parameters;
-    let mut instances = player.instances;
-    synchronize_states(plan, numbers, layout, &parameters, &mut instances);
-    player.instances = instances;
-    player
+    let blank = blank();
+    let mut instances = blank.instances;
+    synchronize_states(figure, &blank.parameters, &mut instances);
+    Player {
+        state: figure.plan.layout.initial,
+        instances,
+        ..blank
+    }
 }
 
 pub fn start(plan: &[u16], numbers: &[f32]) -> Outcome
     ensures { Started plan.now numbers.now result }
 {
-    let checked = check(plan, numbers.len());
-    let answer = answer_of(checked);
-    let Checked::Passed(layout) = checked else {
-        return Outcome {
-            answer: answer,
-            player: blank(),
-        };
-    };
+    let checked = figure(plan, numbers);
     Outcome {
-        answer: answer,
-        player: fresh(plan, numbers, layout),
+        answer: answer_of(checked),
+        player: match checked {
+            Ok(figure) => fresh(&figure),
+            Err(_) => blank(),
+        },
     }
 }
 
@@ -132,42 +119,18 @@ pub fn set(mut player: Player, n: usize, v: f32) -> Outcome
 {
     if n >= MAX_PARAMETERS {
         return Outcome {
-            answer: refused(8, 0),
-            player: player,
+            answer: Err(Reason::Parameter.at(0)),
+            player,
         };
     }
     player.parameters[n] = v;
     Outcome {
-        answer: Answer::Accepted,
-        player: player,
+        answer: Ok(()),
+        player,
     }
 }
 
 // ---- frame and page frame
-
-// The player after a frame, with its answer.
-fn outcome(
-    parts: Parts,
-    done: FrameParts,
-    parameters: [f32; MAX_PARAMETERS],
-    instances: [f32; MAX_INSTANCES],
-) -> Outcome
-    ensures { result ≡ outcome_of parts done parameters instances }
-{
-    let answer = done.answer;
-    let transition = done.transition;
-    Outcome {
-        answer: answer,
-        player: Player {
-            clock: parts.clock,
-            speed: parts.speed,
-            state: done.state,
-            transition: transition,
-            parameters: parameters,
-            instances: instances,
-        },
-    }
-}
 
 // Of either kind, over the player's parts.
 fn framed(
@@ -181,26 +144,26 @@ fn framed(
     ensures { Framed kind plan.now numbers.now player ext
         output.old output.new result }
 {
-    let transition = player.transition;
-    let parts = Parts {
-        clock: player.clock,
-        speed: player.speed,
-        state: player.state,
-        transition: transition,
-    };
-    let parameters = player.parameters;
     let mut instances = player.instances;
     let done = frames::frame(
         kind,
         plan,
         numbers,
-        parts,
-        &parameters,
+        Parts::from(&player),
+        &player.parameters,
         &mut instances,
         ext,
         output,
     );
-    outcome(parts, done, parameters, instances)
+    Outcome {
+        answer: done.answer,
+        player: Player {
+            state: done.state,
+            transition: done.transition,
+            instances,
+            ..player
+        },
+    }
 }
 
 pub fn frame(plan: &[u16], numbers: &[f32], player: Player, ext: f64, output: &mut [f32]) -> Outcome

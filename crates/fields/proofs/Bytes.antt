@@ -1,15 +1,18 @@
 -- Bytes of a text, and a name that stands in it: laws for the crates that read lines. Assumes nothing.
-use Prim.Native.Nat.{ℕ, zero, suc, ◌+◌, ◌-◌, ◌≤◌, ◌<◌, suc-le-suc}
+use Prim.Native.Nat.{ℕ, zero, suc, ◌≤◌, ◌<◌, suc-le-suc}
 use native.Mathlib.Nat.{add-zero}
-use native.Mathlib.Numerals.{add-one}
 use native.Mathlib.Omega.{arith}
-use mathlib.Core.Path.{◌≡◌, refl}
-use mathlib.Core.Bool.{Bool, true, false, ◌&&◌}
+use mathlib.Core.Path.{◌≡◌, refl, ap, ◌∙◌}
+use mathlib.Core.Bool.{Bool, true, false, cond}
 use mathlib.Core.List.{List, [], ◌∷◌}
 use lib.Dec.{T, eqb}
-use lib.ListN.{length, get_or, drop, drop_of_length-le}
-use lib.Seq.{drop-cons, get_or-drop, drop-drop}
-use borrow.Author.Tests.{eq-eqb, ne_eqb}
+use lib.ListN.{length, get_or, drop}
+use lib.Seq.{get_or-drop}
+use borrow.Author.Tests.{ne_eqb}
+use Rattle.std.specs.Prelude.{nat_eq, slice_range}
+use Rattle.std.proofs.lemmas.Bool.Decides.{nat_tests}
+use Rattle.std.proofs.lemmas.Slice.{between_to_end}
+use Rattle.std.specs.List.{starts_with}
 use Rattle.model.specs.Text.{front, begins}
 
 -- ---- bytes
@@ -38,36 +41,29 @@ module _ (text : List ℕ) (at : ℕ) {b : ℕ} (is : b ≡ get_or text at 0) wh
   pub front_at : front (drop at text) ≡ b
   front_at = rw (get_or-drop at text 0 0, add-zero at, is)
 
--- ---- a name
+-- ---- a name, none of whose bytes is the 0 that is read past the text's end
 
-begins_opened : (s text : List ℕ) (i here : ℕ) → i < length s
-    → begins (drop i s) (drop here text) ≡ eqb (get_or text here 0) (get_or s i 0) && begins (drop (i + 1) s) (drop (here + 1) text)
+abbrev Named : List ℕ → Type 0
+Named name = (i : ℕ) → i < length name → 1 ≤ get_or name i 0
+
+rest_named : (c : ℕ) (cs : List ℕ) → Named (c ∷ cs) → Named cs
+rest_named c cs some i h = some (suc i) (omega arith)
+
+-- the library's test is the definition's
+pub starts_begins : (name s : List ℕ) → Named name → starts_with nat_eq s name ≡ begins name s
 unfolding begins
-begins_opened s text i here below = rw (add-one i, drop-cons s i 0 below, front_at text here refl, drop-drop 1 here text)
+starts_begins [] s some = refl
+starts_begins (c ∷ cs) [] some = let p = some 0 (omega arith) in rw (ne_eqb 0 c (λ e. absurd (omega arith)))
+starts_begins (c ∷ cs) (b ∷ s) some = let same : eqb c b ≡ eqb b c = grind (arith, nat_tests) in rw (same, starts_begins cs s (rest_named c cs some))
 
--- the first i bytes of a name stand at `at`, inside the text
-pub record Begun (name text : List ℕ) (at i : ℕ) : Type 0 where
-  pub most : i ≤ length name
-  pub inside : i ≤ length text - at
-  pub rest : begins name (drop at text) ≡ begins (drop i name) (drop (at + i) text)
+-- at a place of a text, where `rest` is what the text has from there on
+pub rest_begins : (name text rest : List ℕ) (at : ℕ) → Named name → rest ≡ slice_range text at (length text) → starts_with nat_eq rest name ≡ begins name (drop at text)
+rest_begins name text rest at some is =
+    let here : rest ≡ drop at text = is ∙ between_to_end text at (length text) (omega arith) in
+    starts_begins name rest some ∙ ap (begins name) here
 
-pub none_begun : (name text : List ℕ) (at : ℕ) → Begun name text at 0
-none_begun name text at = record { most = omega arith; inside = omega arith; rest = rw (add-zero at) }
-
-module _ {name text : List ℕ} {at i : ℕ} (begun : Begun name text at i) where
-  pub name_found : length name ≤ i → begins name (drop at text) ≡ true
-  unfolding begins
-  name_found end = rw (begun.rest, drop_of_length-le name {i = i} end)
-
-  module _ (below : i < length name) {b : ℕ} (is : b ≡ get_or text (at + i) 0) where
-    opened : begins name (drop at text) ≡ eqb b (get_or name i 0) && begins (drop (i + 1) name) (drop (at + i + 1) text)
-    opened = rw (begun.rest, begins_opened name text i (at + i) below, is)
-
-    pub name_missing : (b ≡ get_or name i 0 → ⊥) → begins name (drop at text) ≡ false
-    name_missing differs = rw (opened, ne_eqb _ _ differs)
-
-    pub name_goes : 1 ≤ get_or name i 0 → b ≡ get_or name i 0 → Begun name text at (i + 1)
-    name_goes some same =
-        let p : at + i < length text = inside text (at + i) is (omega arith) in
-        let q : at + i + 1 ≡ at + (i + 1) = omega arith in
-        record { most = omega arith; inside = omega arith; rest = rw (opened, eq-eqb _ _ same, q) }
+-- past the end stands no name but the empty one
+pub no_name : (name : List ℕ) → Named name → 0 ≡ cond (begins name []) (length name) 0
+unfolding begins
+no_name [] some = refl
+no_name (c ∷ cs) some = let p = some 0 (omega arith) in rw (ne_eqb 0 c (λ e. absurd (omega arith)))

@@ -6,43 +6,20 @@ use mathlib.Core.Path.{◌≡◌, refl, sym, ◌∙◌}
 use mathlib.Core.Logic.{⊎_elim, inl, inr}
 use mathlib.Core.Bool.{Bool, true, false, cond, not, ◌||◌}
 use mathlib.Core.List.{List}
+use Rattle.std.specs.Prelude.{Option, Some, None}
+use Rattle.std.specs.Bool.{then_some}
 use lib.Dec.{leb, eqb}
 use lib.ListN.{length, get_or, drop, length-drop, drop_of_length-le}
 use lib.Seq.{drop-cons, drop-drop, get_or-drop}
-use borrow.Author.Tests.{lt-ltb, le-ltb, le-leb, lt-leb, eqb-true, eq-eqb, ne_eqb}
+use borrow.Author.Tests.{lt-ltb, le-ltb, le-leb, lt-leb, leb-true, leb-false, eqb-true, eq-eqb, ne_eqb}
 use Rattle.model.specs.declared.FieldForm.{FieldForm}
 use Rattle.model.specs.declared.FieldForm.TheVariants.{Decimal, Bits}
-use Rattle.model.specs.Check.{within}
 use Rattle.model.proofs.Laws.Digits.{run_length, numeral_small}
 use Rattle.model.specs.Text.{front, digit, digit_count, numeral, base_of, is_field, none, field, field_in}
 use Rattle.fields.specs.CountedTo.{CountedTo}
 use Rattle.fields.specs.Found.{field_at, found}
 use Rattle.fields.specs.Wide.{hexadecimal_at, wide_bits_in, wide_bits_at}
 use Rattle.fields.specs.declared.Field.{Field}
-use Rattle.fields.specs.declared.Field.TheVariants.{Value, Nothing}
-
--- ---- a digit
-
-module _ (b : ℕ) where
-  pub digit_decimal : 48 ≤ b → b ≤ 57 → b - 48 ≡ digit b
-  unfolding digit within
-  digit_decimal l h = simp (le-leb 48 b l, le-leb b 57 h)
-
-  pub digit_letter : 97 ≤ b → b ≤ 102 → b - 87 ≡ digit b
-  unfolding digit within
-  digit_letter l h = simp (le-leb 48 b (omega arith), lt-leb b 57 (omega arith), le-leb 97 b l, le-leb b 102 h)
-
-  pub digit_below : b < 48 → 16 ≡ digit b
-  unfolding digit within
-  digit_below h = simp (lt-leb 48 b h, lt-leb 97 b (omega arith))
-
-  pub digit_between : 57 < b → b < 97 → 16 ≡ digit b
-  unfolding digit within
-  digit_between l h = simp (le-leb 48 b (omega arith), lt-leb b 57 l, lt-leb 97 b h)
-
-  pub digit_above : 102 < b → 16 ≡ digit b
-  unfolding digit within
-  digit_above l = simp (le-leb 48 b (omega arith), lt-leb b 57 (omega arith), le-leb 97 b (omega arith), lt-leb b 102 l)
 
 -- ---- a run
 
@@ -106,7 +83,10 @@ module _ (base most : ℕ) (text : List ℕ) (at i value : ℕ) (h : at ≤ i) (
       let e : i + 1 - at - 1 ≡ i - at = omega arith in
       inr (l, rw e (above base most (drop at text) (i - at) value c b l))
 
--- ---- the field at a place, where `end` is the place behind its run
+-- ---- the field at a place, where `f` is the run there
+
+abbrev run : ℕ → ℕ → Field
+run value end = record { value = value; end = end }
 
 or_true : (t : Bool) → t || true ≡ true
 or_true true = refl
@@ -120,43 +100,46 @@ no_zero_leads k b h = at (eqb b 48) refl
     at true e = rw (eq-eqb k 1 (h (eqb-true b 48 e)))
     at false e = or_true (eqb k 1)
 
-module _ (form : FieldForm) (s : List ℕ) (at end : ℕ) (ends : end ≡ at + digit_count (base_of form) (drop at s)) where
-  digits : end - at ≡ digit_count (base_of form) (drop at s)
+module _ (form : FieldForm) (s : List ℕ) (at : ℕ) (f : Field) (ends : f.end ≡ at + digit_count (base_of form) (drop at s)) where
+  digits : f.end - at ≡ digit_count (base_of form) (drop at s)
   digits = omega arith
 
-  no_field : is_field form (end - at) (drop at s) ≡ false → Nothing ≡ field_at form s at
+  no_field : is_field form (f.end - at) (drop at s) ≡ false → None ≡ field_at form s at
   unfolding field_at
   no_field e = rw (← digits, e)
 
-  is_field_lem : (v : ℕ) → v ≡ numeral (base_of form) (end - at) (drop at s) → is_field form (end - at) (drop at s) ≡ true
-      → Value v end ≡ field_at form s at
+  is_field_lem : f.value ≡ numeral (base_of form) (f.end - at) (drop at s) → is_field form (f.end - at) (drop at s) ≡ true → Some f ≡ field_at form s at
   unfolding field_at
-  is_field_lem v q e = let f : at + (end - at) ≡ end = omega arith in rw (← digits, e, q, f)
+  is_field_lem q e = let back : at + (f.end - at) ≡ f.end = omega arith in rw (← digits, e, ← q, back)
 
-module _ (limit : ℕ) (s : List ℕ) (at end : ℕ) (ends : end ≡ at + digit_count 10 (drop at s)) where
+module _ (limit : ℕ) (s : List ℕ) (at : ℕ) (f : Field) (ends : f.end ≡ at + digit_count 10 (drop at s)) where
   head : front (drop at s) ≡ get_or s at 0
   head = let e : at + 0 ≡ at = omega arith in rw (get_or-drop, e)
 
-  pub decimal_none : end ≡ at → Nothing ≡ field_at (Decimal limit) s at
+  pub decimal_none : f.end ≡ at → None ≡ field_at (Decimal limit) s at
   unfolding is_field
-  decimal_none e = no_field (Decimal limit) s at end ends (simp (lt-leb 1 (end - at) (omega arith)))
+  decimal_none e = no_field (Decimal limit) s at f ends (simp (lt-leb 1 (f.end - at) (omega arith)))
 
-  pub decimal_leads : at + 1 < end → get_or s at 0 ≡ 48 → Nothing ≡ field_at (Decimal limit) s at
+  pub decimal_leads : at + 1 < f.end → get_or s at 0 ≡ 48 → None ≡ field_at (Decimal limit) s at
   unfolding is_field
   decimal_leads l z =
-      no_field (Decimal limit) s at end ends (simp (le-leb 1 (end - at) (omega arith), ne_eqb (end - at) 1 (λ e. omega arith), eq-eqb _ 48 (head ∙ z)))
+      no_field (Decimal limit) s at f ends (simp (le-leb 1 (f.end - at) (omega arith), ne_eqb (f.end - at) 1 (λ e. omega arith), eq-eqb _ 48 (head ∙ z)))
 
   -- past the tests of the digits the limit alone decides
-  module _ (some : end ≡ at → ⊥) (leads : get_or s at 0 ≡ 48 → end ≤ at + 1) where
-    decides : is_field (Decimal limit) (end - at) (drop at s) ≡ leb (numeral 10 (end - at) (drop at s)) limit
+  module _ (some : f.end ≡ at → ⊥) (leads : get_or s at 0 ≡ 48 → f.end ≤ at + 1) (c : CountedTo 10 limit (f.end - at) (drop at s) f.value) where
+    decides : is_field (Decimal limit) (f.end - at) (drop at s) ≡ leb (numeral 10 (f.end - at) (drop at s)) limit
     unfolding is_field
-    decides = simp (le-leb 1 (end - at) (omega arith), no_zero_leads (end - at) (front (drop at s)) (λ z. omega (arith, leads (sym head ∙ z))))
+    decides = simp (le-leb 1 (f.end - at) (omega arith), no_zero_leads (f.end - at) (front (drop at s)) (λ z. omega (arith, leads (sym head ∙ z))))
 
-    pub decimal_above : limit < numeral 10 (end - at) (drop at s) → Nothing ≡ field_at (Decimal limit) s at
-    decimal_above l = no_field (Decimal limit) s at end ends (decides ∙ lt-leb _ limit l)
-
-    pub decimal_reads : (v : ℕ) → v ≤ limit → v ≡ numeral 10 (end - at) (drop at s) → Value v end ≡ field_at (Decimal limit) s at
-    decimal_reads v l e = is_field_lem (Decimal limit) s at end ends v e (decides ∙ le-leb _ limit (omega (arith, e)))
+    pub decimal_reads : then_some (leb f.value limit) f ≡ field_at (Decimal limit) s at
+    decimal_reads = on (leb f.value limit) refl
+      where
+        on : (t : Bool) → leb f.value limit ≡ t → then_some t f ≡ field_at (Decimal limit) s at
+        on true e =
+            let few = leb-true f.value limit e in
+            let q = counted 10 limit (drop at s) (f.end - at) f.value c few in
+            is_field_lem (Decimal limit) s at f ends q (decides ∙ le-leb _ limit (omega (arith, q)))
+        on false e = no_field (Decimal limit) s at f ends (decides ∙ lt-leb _ limit (above 10 limit (drop at s) (f.end - at) f.value c (omega arith) (leb-false f.value limit e)))
 
 -- ---- float bits: a run of just so many digits
 
@@ -171,32 +154,37 @@ bits_form text at = on (eqb k 8) refl
     k : ℕ
     k = digit_count 16 s
 
-    on : (t : Bool) → eqb k 8 ≡ t → cond t (Value (numeral 16 k s) (at + k)) Nothing ≡ cond t (Value (numeral 16 8 s) (at + 8)) Nothing
+    on : (t : Bool) → eqb k 8 ≡ t → cond t (Some (run (numeral 16 k s) (at + k))) None ≡ cond t (Some (run (numeral 16 8 s) (at + 8))) None
     on true e = rw (eqb-true k 8 e)
     on false e = refl
 
-module _ (s : List ℕ) (at end : ℕ) (ends : end ≡ at + digit_count 16 (drop at s)) (n : ℕ) where
-  pub bits_none : (end - at ≡ n → ⊥) → Nothing ≡ hexadecimal_at n s at
-  bits_none h = rw (ne_eqb (digit_count 16 (drop at s)) n (λ e. h (omega arith)))
+pub bits_read : (s : List ℕ) (at : ℕ) (f : Field) (n most : ℕ) → f.end ≡ at + digit_count 16 (drop at s) → CountedTo 16 most (f.end - at) (drop at s) f.value
+    → 16 ^ (n - 1) ≤ most + 1 → then_some (eqb (f.end - at) n) f ≡ hexadecimal_at n s at
+bits_read s at f n most ends c p = rw (← digits) (on (eqb (f.end - at) n) refl)
+  where
+    digits : f.end - at ≡ digit_count 16 (drop at s)
+    digits = omega arith
 
-  pub bits_read : (most v : ℕ) → CountedTo 16 most (end - at) (drop at s) v → 16 ^ (n - 1) ≤ most + 1 → end - at ≡ n → Value v end ≡ hexadecimal_at n s at
-  bits_read most v c p h =
-      let f : at + n ≡ end = omega arith in
-      let small : numeral 16 (n - 1) (drop at s) < 16 ^ (n - 1) = numeral_small 16 (drop at s) (n - 1) (omega arith) in
-      let q : v ≡ numeral 16 n (drop at s) = exact 16 most (drop at s) n v (rw h at c) (omega arith) in
-      rw (eq-eqb (digit_count 16 (drop at s)) n (omega arith), f, q)
+    on : (t : Bool) → eqb (f.end - at) n ≡ t → then_some t f ≡ cond t (Some (run (numeral 16 n (drop at s)) (at + n))) None
+    on true e =
+        let all = eqb-true (f.end - at) n e in
+        let back : at + n ≡ f.end = omega arith in
+        let small : numeral 16 (n - 1) (drop at s) < 16 ^ (n - 1) = numeral_small 16 (drop at s) (n - 1) (omega arith) in
+        let q : f.value ≡ numeral 16 n (drop at s) = exact 16 most (drop at s) n f.value (rw all at c) (omega arith) in
+        rw (back, ← q)
+    on false e = refl
 
 -- ---- what is left of the text behind a field that was read
 
-behind : (text : List ℕ) (at v k : ℕ) (t : Bool) → found text (cond t (Value v (at + k)) Nothing) ≡ cond t (field v (drop k (drop at text))) none
+behind : (text : List ℕ) (at v k : ℕ) (t : Bool) → found text (cond t (Some (run v (at + k))) None) ≡ cond t (field v (drop k (drop at text))) none
 unfolding found
 behind text at v k true = rw drop-drop
 behind text at v k false = refl
 
-pub field_found : (form : FieldForm) (text : List ℕ) (at : ℕ) {r : Field} → r ≡ field_at form text at → found text r ≡ field_in form (drop at text)
+pub field_found : (form : FieldForm) (text : List ℕ) (at : ℕ) {r : Option Field} → r ≡ field_at form text at → found text r ≡ field_in form (drop at text)
 unfolding field_at field_in
 field_found form text at e = rw e (behind text at _ _ (is_field form (digit_count (base_of form) (drop at text)) (drop at text)))
 
-pub wide_found : (text : List ℕ) (at : ℕ) {r : Field} → r ≡ wide_bits_at text at → found text r ≡ wide_bits_in (drop at text)
+pub wide_found : (text : List ℕ) (at : ℕ) {r : Option Field} → r ≡ wide_bits_at text at → found text r ≡ wide_bits_in (drop at text)
 unfolding wide_bits_at wide_bits_in
 wide_found text at e = rw e (behind text at _ _ (eqb (digit_count 16 (drop at text)) 16))

@@ -1,4 +1,5 @@
-// The two formats, by IEEE 754's parameters (3.3) and by what the fields of a pattern weigh (3.4).
+// The two formats, by IEEE 754's parameters (3.3) and by what the fields of a pattern weigh (3.4). No trait's constants: each format would give all of
+// them again, and docs/NARROWING.md, which is held to this file, quotes these names.
 
 // The digits of a significand, the leading one counted: p.
 pub const PRECISION_32: u64 = 24;

@@ -17,7 +17,8 @@ use model::Narrowed;
 
 pub mod formats;
 
-// f32::from_bits asks for no NaN, so a NaN's patterns are made into one by a division.
+// f32::from_bits asks for no NaN, so a NaN's patterns are made into one by a division. Each width has functions of its own: over a trait each would still
+// have to be given for each width, with the same one test in it.
 pub fn f32_from_bits(b: u32) -> f32
     ensures { result ≡ from_bits binary32 b }
 {
@@ -55,7 +56,7 @@ pub fn f64_to_bits(x: f64) -> u64
 pub fn widen(x: f32) -> f64
     ensures { result ≡ x }
 {
-    std::num::f32_to_f64_with_nan(x)
+    f64::from(x)
 }
 
 // ---- narrowing, by the cases of IEEE 754: docs/NARROWING.md has the standard's sentence, the predicate and the branch side by side
@@ -153,7 +154,8 @@ pub fn narrow(x: f64) -> f32
 
 // ---- indices
 
-// Rust's `x.floor() as usize`. Truncation is the floor from 0 on; what has no index gets the first or the last.
+// Rust's `x.floor() as usize`. Truncation is the floor from 0 on; what has no index gets the first or the last. std's saturating cast would hide the last
+// index, which the edit floor_index_last takes for a smaller one.
 pub fn floor_index(x: f32) -> u64
     ensures { result ≡ floor_index x }
 {
@@ -189,7 +191,8 @@ pub fn ceiling_index(x: f32) -> u64
 }
 
 // Rust's `n as f32`. The cast is supplied where it is exact, below 2 ^ 24. From there on the k lowest digits are rounded away, so that 24 are left;
-// the last place is then 2 ^ k, which lies 149 + k places above the smallest float.
+// the last place is then 2 ^ k, which lies 149 + k places above the smallest float. std's nearest_u64_to_f32 has no place for the digit that the edit
+// index_to_float_digits takes away.
 pub fn index_to_float(n: u64) -> f32
     ensures { result ≡ index_float n }
 {

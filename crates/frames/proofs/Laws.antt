@@ -7,8 +7,7 @@ use lib.ListN.{length}
 use lib.Dec.{ltb}
 use lib.Ieee.{Float}
 use borrow.Author.Tests.{ltb-true, le-leb, lt-leb, leb-true}
-use Rattle.model.specs.declared.Answer.{Answer}
-use Rattle.model.specs.declared.Answer.TheVariants as answer
+use Rattle.std.specs.Prelude.{Result, Ok, Err}
 use Rattle.model.specs.declared.FrameKind.{FrameKind}
 use Rattle.model.specs.declared.Player.{Player}
 use Rattle.model.specs.Answers.{Verdict, accepted, refused, values, ◌then◌, require, unless_refused}
@@ -26,22 +25,12 @@ use Rattle.layout.specs.declared.Layout.{Layout}
 use Rattle.layout.specs.declared.StateLayout.{StateLayout}
 use Rattle.layout.specs.Layout.{layout_of, state_layout}
 use Rattle.layout.proofs.Laws.{joints_found, states_found, same_state}
-use Rattle.plan.specs.declared.Checked.{Checked}
-use Rattle.plan.specs.declared.Checked.TheVariants as checked
 use Rattle.transitions.specs.declared.Stepped.{Stepped}
-use Rattle.plan.specs.Checked.{verdict, layout_in, PlanChecked}
-use Rattle.blend_tree.specs.Blocks.{Playable}
 use Rattle.transitions.specs.Step.{StepMade}
 use Rattle.output_pose.specs.Shown.{Shown}
 use Rattle.frames.specs.Parts.{player_of, outcome_of, FrameAnswered, FramePlayed}
 use Rattle.frames.specs.declared.FrameParts.{FrameParts}
 use Rattle.frames.specs.declared.Parts.{Parts}
-
--- ---- the check's enum
-
-pub playable : (plan : List ℕ) (numbers : List Float) (k : Checked) (l : Layout) → PlanChecked plan (length numbers) k → k ≡ checked.Passed l → Playable plan numbers l
-unfolding verdict layout_in
-playable plan numbers k l done e = record { passed = sym done.answer ∙ ap verdict e; found = sym (ap (layout_in (layout_of plan)) e) ∙ done.layout }
 
 -- ---- steps 1 to 3
 
@@ -102,50 +91,49 @@ module _ (plan : List ℕ) (numbers : List Float) (p : Player) (n : ℕ) where
     unfolding frame_verdict
     frame_fits = leb-true _ _ (require_true _ _ _ (then_right _ _ e))
 
--- a plan that passed, by its layout: the tests that follow, each past the ones before it
-module _ (l : Layout) (parts : Parts) (n : ℕ) (a : Answer) (has : Bool) (told : has ≡ has_states l.states parts.state parts.transition) where
-  pub player_refuses : has ≡ false → values a ≡ refused 9 0 0 → FrameAnswered l parts n a
+-- a figure that passed: the tests that follow, each past the ones before it
+module _ (plan : List ℕ) (numbers : List Float) (l : Layout) (passed : check plan (length numbers) ≡ accepted) (found : l ≡ layout_of plan)
+    (parts : Parts) (n : ℕ) (a : Result Unit Refusal) (has : Bool) (told : has ≡ has_states l.states parts.state parts.transition) where
+  pub player_refuses : has ≡ false → values a ≡ refused 9 0 0 → FrameAnswered plan numbers parts n a
   unfolding frame_verdict ◌then◌ require
-  player_refuses f e = record { answer = λ plan numbers _ _ ok. e ∙ sym (rw (ok.passed, ← states_found plan ok.found, ← told, f)) }
+  player_refuses f e = record { answer = λ _ _. e ∙ sym (rw (passed, ← states_found plan found, ← told, f)) }
 
   module _ (t : has ≡ true) (at : ℕ) (end : at ≡ output_at l.joints) where
-    pub output_refuses : n < at → values a ≡ refused 10 0 0 → FrameAnswered l parts n a
+    pub output_refuses : n < at → values a ≡ refused 10 0 0 → FrameAnswered plan numbers parts n a
     unfolding frame_verdict ◌then◌ require
-    output_refuses f e =
-        record { answer = λ plan numbers _ _ ok. e ∙ sym (rw (ok.passed, ← states_found plan ok.found, ← told, t, ← joints_found plan ok.found, ← end, lt-leb at n f)) }
+    output_refuses f e = record { answer = λ _ _. e ∙ sym (rw (passed, ← states_found plan found, ← told, t, ← joints_found plan found, ← end, lt-leb at n f)) }
 
-    pub nothing_refuses : at ≤ n → values a ≡ accepted → FrameAnswered l parts n a
+    pub nothing_refuses : at ≤ n → values a ≡ accepted → FrameAnswered plan numbers parts n a
     unfolding frame_verdict ◌then◌ require
-    nothing_refuses f e =
-        record { answer = λ plan numbers _ _ ok. e ∙ sym (rw (ok.passed, ← states_found plan ok.found, ← told, t, ← joints_found plan ok.found, ← end, le-leb at n f)) }
+    nothing_refuses f e = record { answer = λ _ _. e ∙ sym (rw (passed, ← states_found plan found, ← told, t, ← joints_found plan found, ← end, le-leb at n f)) }
 
 -- the promise of a refused frame of either kind, with the parts as they were, and of an accepted one
 module _ (kind : FrameKind) (plan : List ℕ) (numbers : List Float) (parts : Parts) (parameters instances : List Float) (ext : Float) where
   abbrev lent : Player
   lent = player_of parts parameters instances
 
-  frame_refused : (old : List Float) (a : Answer) (k m n : ℕ) → frame_verdict plan numbers lent (length old) ≡ refused k m n → values a ≡ refused k m n
+  frame_refused : (old : List Float) (a : Result Unit Refusal) (k m n : ℕ) → frame_verdict plan numbers lent (length old) ≡ refused k m n → values a ≡ refused k m n
       → (r : FrameParts) → (r.answer ≡ a) × (r.state ≡ parts.state) × (r.transition ≡ parts.transition) → Framed kind plan numbers lent ext old old (outcome_of parts r parameters instances)
   unfolding unless_refused
   frame_refused old a k m n v e r same = record { answer = ap values same.0 ∙ e ∙ sym v; player = rw (v, same.1, same.2); output = rw v }
 
   -- a check's refusal is handed on
-  pub check_handed : (old : List Float) (k : Checked) → PlanChecked plan (length numbers) k → (x : Refusal) → k ≡ checked.Refused x → (a : Answer) → values a ≡ verdict k
+  pub check_handed : {A : Type 0} (old : List Float) (k : Result A Refusal) → values k ≡ check plan (length numbers) → (x : Refusal) → k ≡ Err x → (a : Result Unit Refusal) → values a ≡ values k
       → (r : FrameParts) → (r.answer ≡ a) × (r.state ≡ parts.state) × (r.transition ≡ parts.transition) → Framed kind plan numbers lent ext old old (outcome_of parts r parameters instances)
-  unfolding verdict
+  unfolding values
   check_handed old k done x e a told =
-      frame_refused old a x.number x.place 0 (check_refuses plan numbers lent (length old) x.number x.place 0 (sym done.answer ∙ ap verdict e)) (told ∙ ap verdict e)
+      frame_refused old a _ x.place 0 (check_refuses plan numbers lent (length old) _ x.place 0 (sym done ∙ ap values e)) (told ∙ ap values e)
 
-  module _ (l : Layout) (ok : Playable plan numbers l) (old : List Float) (a : Answer) (answered : FrameAnswered l parts (length old) a) where
+  module _ (old : List Float) (a : Result Unit Refusal) (answered : FrameAnswered plan numbers parts (length old) a) where
     answer_is : values a ≡ frame_verdict plan numbers lent (length old)
-    answer_is = answered.answer plan numbers parameters instances ok
+    answer_is = answered.answer parameters instances
 
-    pub frame_handed : (x : Refusal) → a ≡ answer.Refused x
+    pub frame_handed : (x : Refusal) → a ≡ Err x
         → (r : FrameParts) → (r.answer ≡ a) × (r.state ≡ parts.state) × (r.transition ≡ parts.transition) → Framed kind plan numbers lent ext old old (outcome_of parts r parameters instances)
     unfolding values
-    frame_handed x e = frame_refused old a x.number x.place 0 (sym answer_is ∙ ap values e) (ap values e)
+    frame_handed x e = frame_refused old a _ x.place 0 (sym answer_is ∙ ap values e) (ap values e)
 
-    module _ (e : a ≡ answer.Accepted) where
+    module _ (x : Unit {0}) (e : a ≡ Ok x) where
       pub now_accepted : frame_verdict plan numbers lent (length old) ≡ accepted
       unfolding values
       now_accepted = sym answer_is ∙ ap values e

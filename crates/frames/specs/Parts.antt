@@ -1,6 +1,6 @@
 -- A player by its parts, as functions have it that borrow its arrays. Definitions only.
-use Rattle.std.specs.Prelude.{ℕ, ◌≡◌, List, Float}
-use Rattle.model.specs.declared.Answer.{Answer}
+use Rattle.std.specs.Prelude.{ℕ, ◌≡◌, List, Float, Result}
+use Rattle.model.specs.declared.Refusal.{Refusal}
 use Rattle.model.specs.declared.FrameKind.{FrameKind}
 use Rattle.model.specs.declared.Player.{Player}
 use Rattle.model.specs.declared.Outcome.{Outcome}
@@ -10,10 +10,12 @@ use Rattle.model.specs.Controller.{frame_verdict}
 use Rattle.model.specs.Skeleton.{written}
 use Rattle.model.specs.Run.{frame_player, frame_matrices}
 use Rattle.model.specs.Promises.{Framed}
-use Rattle.layout.specs.declared.Layout.{Layout}
-use Rattle.blend_tree.specs.Blocks.{Playable}
 use Rattle.frames.specs.declared.Parts.{Parts}
 use Rattle.frames.specs.declared.FrameParts.{FrameParts}
+
+-- a player's
+abbrev pub parts_of : Player → Parts
+parts_of p = record { clock = p.clock; speed = p.speed; state = p.state; transition = p.transition }
 
 -- the parts after a frame
 abbrev pub moved : Parts → ℕ → Transition → Parts
@@ -33,10 +35,9 @@ abbrev pub FramedParts : FrameKind → List ℕ → List Float → Parts → Lis
 FramedParts kind plan numbers parts parameters ext before after old new r =
     Framed kind plan numbers (player_of parts parameters before) ext old new (outcome_of parts r parameters after)
 
--- the answer to a frame of a plan with this layout, whatever else the player holds
-pub record FrameAnswered (layout : Layout) (parts : Parts) (output_length : ℕ) (r : Answer) : Type 0 where
-  pub answer : (plan : List ℕ) (numbers parameters instances : List Float) → Playable plan numbers layout
-      → values r ≡ frame_verdict plan numbers (player_of parts parameters instances) output_length
+-- the answer to a frame of a figure that a start accepts, whatever else the player holds
+pub record FrameAnswered (plan : List ℕ) (numbers : List Float) (parts : Parts) (output_length : ℕ) (r : Result Unit Refusal) : Type 0 where
+  pub answer : (parameters instances : List Float) → values r ≡ frame_verdict plan numbers (player_of parts parameters instances) output_length
 
 -- a frame that nothing refuses: p becomes q, and the output changes from `old` to `new`
 pub record FramePlayed (kind : FrameKind) (plan : List ℕ) (numbers : List Float) (p : Player) (ext : Float) (old new : List Float) (q : Player) : Type 0 where

@@ -2,22 +2,22 @@
 // `controller` has both on a player by value.
 #![tactic(auto)]
 
-ghost use Rattle.std.specs.Prelude.{◌≡◌, true, ◌<◌, ◌≤◌};
+ghost use Rattle.std.specs.Prelude.{◌≡◌, true, ◌<◌};
 ghost use Rattle.model.specs.declared.Transition.TheVariants as Transition;
-ghost use Rattle.model.specs.Plan.{max_joints, state_count};
+ghost use Rattle.model.specs.Plan.{state_count};
 ghost use Rattle.model.specs.Controller.{is_target_below, has_states};
-ghost use Rattle.layout.specs.Layout.{layout_of, state_layout, Passes, InPlan};
-ghost use Rattle.blend_tree.specs.Blocks.{Playable};
+ghost use Rattle.layout.specs.Layout.{state_layout};
 ghost use Rattle.skeleton.specs.Buffer.{HasRoom};
-ghost use Rattle.frames.specs.Parts.{moved, player_of, FramedParts, FrameAnswered, FramePlayed};
+ghost use Rattle.frames.specs.Parts.{parts_of, moved, player_of, FramedParts, FrameAnswered, FramePlayed};
 
 use blend_tree::StateAt;
 use float::narrow;
-use layout::{Layout, StateLayout, state_layout};
+use layout::passed::{Figure, State};
+use layout::{Layout, StateLayout};
 use model::limits::{MAX_INSTANCES, MAX_PARAMETERS};
-use model::{Answer, FrameKind, Transition, refused};
+use model::{Answer, FrameKind, Player, Reason, Transition};
 use output_pose::{show, show_joint};
-use plan::{Checked, answer_of, check};
+use plan::{answer_of, figure};
 use skeleton::output_at;
 use transitions::{Stepped, step};
 
@@ -28,6 +28,19 @@ pub struct Parts {
     pub speed: f64,
     pub state: usize,
     pub transition: Transition,
+}
+
+impl From<&Player> for Parts {
+    ghost from_gives = { λ player r. r ≡ parts_of player.now };
+
+    fn from(player: &Player) -> Parts {
+        Parts {
+            clock: player.clock,
+            speed: player.speed,
+            state: player.state,
+            transition: player.transition,
+        }
+    }
 }
 
 // The answer, and the parts that a frame hands back; the instances are changed where they are.
@@ -43,11 +56,7 @@ fn is_target_below(n: usize, transition: Transition) -> bool
 {
     match transition {
         Transition::Idle => true,
-        Transition::Running {
-            start: _,
-            target,
-            duration: _,
-        } => target < n,
+        Transition::Running { target, .. } => target < n,
     }
 }
 
@@ -58,18 +67,15 @@ pub fn has_states(states: usize, state: usize, transition: Transition) -> bool
     (state < states) & is_target_below(states, transition)
 }
 
-// The layout of a state, which is often the one at hand.
-fn layout_of(plan: &[u16], layout: Layout, here: StateLayout, state: usize) -> StateLayout
-    requires { Passes plan.now
-        × (layout ≡ layout_of plan.now)
-        × InPlan plan.now here
-        × (state < state_count plan.now) }
-    ensures { result ≡ state_layout plan.now state }
+// The layout of a state, which is often that of the one at hand.
+fn layout_of(at_hand: &State<'_>, state: usize) -> StateLayout
+    requires { state < state_count at_hand.now.plan.words.now }
+    ensures { result ≡ state_layout at_hand.now.plan.words.now state }
 {
-    if state == here.state {
-        return here;
+    if state == at_hand.here.state {
+        return at_hand.here;
     }
-    state_layout(plan, layout, state)
+    at_hand.plan.state_layout(state)
 }
 
 // One joint, one clip, and no transition. It is asked here, since the way through `show` costs more than the pose.
@@ -79,51 +85,53 @@ fn is_single(layout: Layout, here: StateLayout, transition: Transition) -> bool
     let Transition::Idle = transition else {
         return false;
     };
-    if layout.joints != 1 {
-        return false;
-    }
-    here.nodes == 1
+    layout.joints == 1 && here.nodes == 1
 }
 
 // Steps 1 to 3 of a frame that nothing refuses.
 fn play(
     kind: FrameKind,
-    plan: &[u16],
-    numbers: &[f32],
-    layout: Layout,
+    figure: &Figure<'_>,
     parts: Parts,
     parameters: &[f32; MAX_PARAMETERS],
     instances: &mut [f32; MAX_INSTANCES],
     ext: f64,
     output: &mut [f32],
 ) -> Stepped
-    requires { Playable plan.now numbers.now layout
-        × (parts.state < state_count plan.now)
-        × (is_target_below (state_count plan.now) parts.transition ≡ true)
-        × HasRoom plan.now output.old }
-    ensures { FramePlayed kind plan.now numbers.now
+    requires state { parts.state < state_count figure.now.plan.words.now }
+    requires target { is_target_below (state_count figure.now.plan.words.now) parts.transition ≡ true }
+    requires room { HasRoom figure.now.plan.words.now output.old }
+    ensures { FramePlayed kind figure.now.plan.words.now figure.now.numbers.now
         (player_of parts parameters.now instances.old)
         ext output.old output.new
         (player_of (moved parts result.state result.transition) parameters.now instances.new) }
 {
-    let clock = parts.clock;
-    let speed = parts.speed;
-    let instant = clock + ext;
-    let before = state_layout(plan, layout, parts.state);
-    let transition = parts.transition;
-    let stepped = step(plan, numbers, before, transition, parameters, instant);
-    let next = stepped.transition;
+    let instant = parts.clock + ext;
+    let before = figure.plan.state(parts.state);
+    let stepped = step(
+        &before,
+        figure.numbers,
+        parts.transition,
+        parameters,
+        instant,
+    );
     let state = StateAt {
-        layout: layout,
-        here: layout_of(plan, layout, before, stepped.state),
-        time: narrow(clock + ext * speed),
+        figure: *figure,
+        here: layout_of(&before, stepped.state),
+        time: narrow(parts.clock + ext * parts.speed),
     };
-    if is_single(layout, state.here, next) {
-        show_joint(kind, plan, numbers, state, instances, output);
+    if is_single(figure.plan.layout, state.here, stepped.transition) {
+        show_joint(kind, &state, instances, output);
         return stepped;
     }
     show(
-        kind, plan, numbers, state, next, parameters, instances, instant, output,
+        kind,
+        &state,
+        stepped.transition,
+        parameters,
+        instances,
+        instant,
+        output,
     );
     stepped
 }
@@ -132,27 +140,25 @@ fn play(
 fn kept(refusal: Answer, parts: Parts) -> FrameParts
     ensures { (result.answer ≡ refusal) × (result.state ≡ parts.state) × (result.transition ≡ parts.transition) }
 {
-    let transition = parts.transition;
     FrameParts {
         answer: refusal,
         state: parts.state,
-        transition: transition,
+        transition: parts.transition,
     }
 }
 
 // Of a plan that passed: the player's state and running target must be the plan's, and the output long enough.
-fn frame_answer(layout: Layout, parts: Parts, length: usize) -> Answer
-    requires { layout.joints ≤ max_joints }
-    ensures { FrameAnswered layout parts length result }
+fn frame_answer(figure: &Figure<'_>, parts: Parts, length: usize) -> Answer
+    ensures { FrameAnswered figure.now.plan.words.now figure.now.numbers.now parts length result }
 {
-    let transition = parts.transition;
-    if !has_states(layout.states, parts.state, transition) {
-        return refused(9, 0);
+    let layout = figure.plan.layout;
+    if !has_states(layout.states, parts.state, parts.transition) {
+        return Err(Reason::State.at(0));
     }
     if length < output_at(layout.joints) {
-        return refused(10, 0);
+        return Err(Reason::Output.at(0));
     }
-    Answer::Accepted
+    Ok(())
 }
 
 // One function for both kinds, so that the compiler can inline the work.
@@ -170,21 +176,18 @@ pub fn frame(
         instances.old instances.new output.old output.new result }
 {
     // Lent anew, so that its pointer and length are loaded one by one: a load of both would wait for a C host's two stores.
-    let checked = check(&*plan, numbers.len());
-    let Checked::Passed(layout) = checked else {
+    let checked = figure(&*plan, numbers);
+    let Ok(figure) = checked else {
         return kept(answer_of(checked), parts);
     };
-    let answer = frame_answer(layout, parts, output.len());
-    let Answer::Accepted = answer else {
+    let answer = frame_answer(&figure, parts, output.len());
+    let Ok(()) = answer else {
         return kept(answer, parts);
     };
-    let stepped = play(
-        kind, plan, numbers, layout, parts, parameters, instances, ext, output,
-    );
-    let next = stepped.transition;
+    let stepped = play(kind, &figure, parts, parameters, instances, ext, output);
     FrameParts {
-        answer: answer,
+        answer,
         state: stepped.state,
-        transition: next,
+        transition: stepped.transition,
     }
 }

@@ -3,8 +3,9 @@
 
 ghost use Rattle.host_loops.specs.HostLoops.{HostLoopsCounted};
 
-use host_player::{HostPlayer, host_answer, unpack};
+use host_player::HostPlayer;
 use loops::loops;
+use model::Player;
 
 // Number 0 is the acceptance. Any other is a refusal, and loops and rest are 0.
 #[repr(C)]
@@ -26,13 +27,18 @@ pub fn host_loops(
 ) -> HostLoops
     ensures { HostLoopsCounted plan.now numbers.now flat state node time result }
 {
-    let count = loops(plan, numbers, unpack(flat), state, node, time);
-    let answer = count.answer;
-    let told = host_answer(answer);
-    HostLoops {
-        number: told.number,
-        place: told.place,
-        loops: count.loops,
-        rest: count.rest,
+    match loops(plan, numbers, Player::from(flat), state, node, time) {
+        Ok(count) => HostLoops {
+            number: 0,
+            place: 0,
+            loops: count.loops,
+            rest: count.rest,
+        },
+        Err(refusal) => HostLoops {
+            number: refusal.reason.number(),
+            place: refusal.place,
+            loops: 0,
+            rest: 0,
+        },
     }
 }

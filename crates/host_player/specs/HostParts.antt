@@ -19,6 +19,10 @@ host_of parts parameters instances = record {
   instances = instances;
 }
 
+-- and its parts
+abbrev pub parts_of_host : HostPlayer → HostParts
+parts_of_host f = record { clock = f.clock; speed = f.speed; state = f.state; running = f.running; start = f.start; target = f.target; duration = f.duration }
+
 -- with any arrays: the player that the flat one stands for, and the flat player that calls store
 abbrev pub UnpackedParts : HostParts → Parts → Type 0
 UnpackedParts flat parts = (parameters instances : List Float) → player_of parts parameters instances ≡ unpacked (host_of flat parameters instances)

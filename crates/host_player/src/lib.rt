@@ -9,12 +9,12 @@ ghost use Rattle.model.specs.Text.{text_values};
 ghost use Rattle.host_player.specs.HostPlayer.{unpacked, packed, host_answer, host_text_answer};
 ghost use Rattle.host_player.specs.HostPromises.{HostStarted, HostUpdated, HostSpeedSet, HostParameterSet};
 ghost use Rattle.host_player.specs.HostPromises.{HostFramed};
-ghost use Rattle.host_player.specs.HostParts.{host_of, UnpackedParts, PackedParts};
+ghost use Rattle.host_player.specs.HostParts.{host_of, parts_of_host, UnpackedParts, PackedParts};
 
 use controller::{set, speed, start, update};
 use frames::{Parts, frame};
 use model::limits::{MAX_INSTANCES, MAX_PARAMETERS};
-use model::{Answer, FrameKind, Outcome, Player, TextAnswer, Transition};
+use model::{Answer, FrameKind, Lengths, Outcome, Player, Refusal, Transition};
 
 // Start, target and duration count where `running` is not 0.
 #[repr(C)]
@@ -70,147 +70,144 @@ pub struct HostOutcome {
 
 // ---- there and back
 
-fn unpack_parts(flat: HostParts) -> Parts
-    ensures { UnpackedParts flat result }
-{
-    let transition = if flat.running == 0 {
-        Transition::Idle
-    } else {
-        Transition::Running {
+impl From<HostParts> for Parts {
+    ghost from_gives = { UnpackedParts };
+
+    fn from(flat: HostParts) -> Parts {
+        let transition = if flat.running == 0 {
+            Transition::Idle
+        } else {
+            Transition::Running {
+                start: flat.start,
+                target: flat.target,
+                duration: flat.duration,
+            }
+        };
+        Parts {
+            clock: flat.clock,
+            speed: flat.speed,
+            state: flat.state,
+            transition,
+        }
+    }
+}
+
+impl From<Parts> for HostParts {
+    ghost from_gives = { PackedParts };
+
+    fn from(parts: Parts) -> HostParts {
+        let (running, start, target, duration) = match parts.transition {
+            Transition::Idle => (0, 0.0, 0, 0.0),
+            Transition::Running {
+                start,
+                target,
+                duration,
+            } => (1, start, target, duration),
+        };
+        HostParts {
+            clock: parts.clock,
+            speed: parts.speed,
+            state: parts.state,
+            running,
+            start,
+            target,
+            duration,
+        }
+    }
+}
+
+impl From<&HostPlayer> for HostParts {
+    ghost from_gives = { λ flat r. r ≡ parts_of_host flat.now };
+
+    fn from(flat: &HostPlayer) -> HostParts {
+        HostParts {
+            clock: flat.clock,
+            speed: flat.speed,
+            state: flat.state,
+            running: flat.running,
             start: flat.start,
             target: flat.target,
             duration: flat.duration,
         }
-    };
-    Parts {
-        clock: flat.clock,
-        speed: flat.speed,
-        state: flat.state,
-        transition: transition,
     }
 }
 
-fn pack_parts(parts: Parts) -> HostParts
-    ensures { PackedParts parts result }
-{
-    let transition = parts.transition;
-    match transition {
-        Transition::Idle => HostParts {
+impl From<HostPlayer> for Player {
+    ghost from_gives = { λ flat r. r ≡ unpacked flat };
+
+    fn from(flat: HostPlayer) -> Player {
+        let parts = Parts::from(HostParts::from(&flat));
+        Player {
             clock: parts.clock,
             speed: parts.speed,
             state: parts.state,
-            running: 0,
-            start: 0.0,
-            target: 0,
-            duration: 0.0,
-        },
-        Transition::Running {
-            start,
-            target,
-            duration,
-        } => HostParts {
+            transition: parts.transition,
+            parameters: flat.parameters,
+            instances: flat.instances,
+        }
+    }
+}
+
+impl From<Player> for HostPlayer {
+    ghost from_gives = { λ player r. r ≡ packed player };
+
+    fn from(player: Player) -> HostPlayer {
+        let parts = HostParts::from(Parts::from(&player));
+        HostPlayer {
             clock: parts.clock,
             speed: parts.speed,
             state: parts.state,
-            running: 1,
-            start: start,
-            target: target,
-            duration: duration,
-        },
+            running: parts.running,
+            start: parts.start,
+            target: parts.target,
+            duration: parts.duration,
+            parameters: player.parameters,
+            instances: player.instances,
+        }
     }
 }
 
-pub fn unpack(flat: HostPlayer) -> Player
-    ensures { result ≡ unpacked flat }
-{
-    let parameters = flat.parameters;
-    let instances = flat.instances;
-    let parts = unpack_parts(HostParts {
-        clock: flat.clock,
-        speed: flat.speed,
-        state: flat.state,
-        running: flat.running,
-        start: flat.start,
-        target: flat.target,
-        duration: flat.duration,
-    });
-    let transition = parts.transition;
-    Player {
-        clock: parts.clock,
-        speed: parts.speed,
-        state: parts.state,
-        transition: transition,
-        parameters: parameters,
-        instances: instances,
+impl From<Answer> for HostAnswer {
+    ghost from_gives = { λ answer r. r ≡ host_answer (values answer) };
+
+    fn from(answer: Answer) -> HostAnswer {
+        let (number, place) = match answer {
+            Ok(()) => (0, 0),
+            Err(refusal) => refusal.number_and_place(),
+        };
+        HostAnswer { number, place }
     }
 }
 
-fn pack(player: Player) -> HostPlayer
-    ensures { result ≡ packed player }
-{
-    let parameters = player.parameters;
-    let instances = player.instances;
-    let transition = player.transition;
-    let parts = pack_parts(Parts {
-        clock: player.clock,
-        speed: player.speed,
-        state: player.state,
-        transition: transition,
-    });
-    HostPlayer {
-        clock: parts.clock,
-        speed: parts.speed,
-        state: parts.state,
-        running: parts.running,
-        start: parts.start,
-        target: parts.target,
-        duration: parts.duration,
-        parameters: parameters,
-        instances: instances,
+impl From<Outcome> for HostOutcome {
+    ghost from_gives = { λ outcome r. (r.answer ≡ host_answer (values outcome.answer)) × (r.player ≡ packed outcome.player) };
+
+    fn from(outcome: Outcome) -> HostOutcome {
+        HostOutcome {
+            answer: HostAnswer::from(outcome.answer),
+            player: HostPlayer::from(outcome.player),
+        }
     }
 }
 
-pub fn host_answer(answer: Answer) -> HostAnswer
-    ensures { result ≡ host_answer (values answer) }
-{
-    match answer {
-        Answer::Accepted => HostAnswer {
-            number: 0,
-            place: 0,
-        },
-        Answer::Refused(refusal) => HostAnswer {
-            number: refusal.number,
-            place: refusal.place,
-        },
-    }
-}
+impl From<Result<Lengths, Refusal>> for HostTextAnswer {
+    ghost from_gives = { λ answer r. r ≡ host_text_answer (text_values answer) };
 
-fn host_outcome(outcome: Outcome) -> HostOutcome
-    ensures { (result.answer ≡ host_answer (values outcome.answer)) × (result.player ≡ packed outcome.player) }
-{
-    let answer = outcome.answer;
-    HostOutcome {
-        answer: host_answer(answer),
-        player: pack(outcome.player),
-    }
-}
-
-pub fn host_text_answer(answer: TextAnswer) -> HostTextAnswer
-    ensures { result ≡ host_text_answer (text_values answer) }
-{
-    match answer {
-        TextAnswer::Accepted { words, numbers } => HostTextAnswer {
-            number: 0,
-            place: 0,
-            words: words,
-            numbers: numbers,
-        },
-        TextAnswer::Refused(refusal) => HostTextAnswer {
-            number: refusal.number,
-            place: refusal.place,
-            words: 0,
-            numbers: 0,
-        },
+    fn from(answer: Result<Lengths, Refusal>) -> HostTextAnswer {
+        match answer {
+            Ok(lengths) => HostTextAnswer {
+                number: 0,
+                place: 0,
+                words: lengths.words,
+                numbers: lengths.numbers,
+            },
+            Err(refusal) => HostTextAnswer {
+                number: refusal.reason.number(),
+                place: refusal.place,
+                words: 0,
+                numbers: 0,
+            },
+        }
     }
 }
 
@@ -219,33 +216,32 @@ pub fn host_text_answer(answer: TextAnswer) -> HostTextAnswer
 pub fn started(plan: &[u16], numbers: &[f32]) -> HostOutcome
     ensures { HostStarted plan.now numbers.now result.player result.answer }
 {
-    host_outcome(start(plan, numbers))
+    HostOutcome::from(start(plan, numbers))
 }
 
 pub fn updated(flat: HostPlayer, delta: f64) -> HostPlayer
     ensures { HostUpdated flat delta result }
 {
-    pack(update(unpack(flat), delta))
+    HostPlayer::from(update(Player::from(flat), delta))
 }
 
 pub fn with_speed(flat: HostPlayer, value: f64) -> HostPlayer
     ensures { HostSpeedSet flat value result }
 {
-    pack(speed(unpack(flat), value))
+    HostPlayer::from(speed(Player::from(flat), value))
 }
 
 pub fn parameter_set(flat: HostPlayer, parameter: usize, value: f32) -> HostOutcome
     ensures { HostParameterSet flat parameter value result.player result.answer }
 {
-    let outcome = set(unpack(flat), parameter, value);
-    let answer = outcome.answer;
-    let Answer::Accepted = answer else {
+    let outcome = set(Player::from(flat), parameter, value);
+    if outcome.answer.is_err() {
         return HostOutcome {
-            answer: host_answer(answer),
+            answer: HostAnswer::from(outcome.answer),
             player: flat,
         };
-    };
-    host_outcome(outcome)
+    }
+    HostOutcome::from(outcome)
 }
 
 // ---- frame and page frame: the player's owner lends its arrays
@@ -273,26 +269,21 @@ pub fn host_frame(
         ext output.old output.new
         (host_of result.parts parameters.now instances.new) result.answer }
 {
-    let before = unpack_parts(parts);
+    let before = Parts::from(parts);
     let frame = frame(
         kind, plan, numbers, before, parameters, instances, ext, output,
     );
-    let answer = frame.answer;
-    let flat = host_answer(answer);
-    let Answer::Accepted = answer else {
-        return HostFrame {
-            answer: flat,
-            parts: parts,
-        };
+    let answer = HostAnswer::from(frame.answer);
+    if frame.answer.is_err() {
+        return HostFrame { answer, parts };
+    }
+    let after = Parts {
+        state: frame.state,
+        transition: frame.transition,
+        ..before
     };
-    let transition = frame.transition;
     HostFrame {
-        answer: flat,
-        parts: pack_parts(Parts {
-            clock: before.clock,
-            speed: before.speed,
-            state: frame.state,
-            transition: transition,
-        }),
+        answer,
+        parts: HostParts::from(after),
     }
 }

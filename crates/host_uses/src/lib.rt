@@ -3,7 +3,6 @@
 
 ghost use Rattle.host_uses.specs.HostUses.{HostUsesFound};
 
-use host_player::host_answer;
 use model::limits::{MAX_CLIPS, MAX_PARAMETERS, MAX_STATES};
 use uses::uses;
 
@@ -21,17 +20,20 @@ pub struct HostUses {
 pub fn host_uses(plan: &[u16], numbers: &[f32]) -> HostUses
     ensures { HostUsesFound plan.now numbers.now result }
 {
-    let found = uses(plan, numbers);
-    let answer = found.answer;
-    let flat = host_answer(answer);
-    let states = found.states;
-    let parameters = found.parameters;
-    let clips = found.clips;
-    HostUses {
-        number: flat.number,
-        place: flat.place,
-        states: states,
-        parameters: parameters,
-        clips: clips,
+    match uses(plan, numbers) {
+        Ok(found) => HostUses {
+            number: 0,
+            place: 0,
+            states: found.states,
+            parameters: found.parameters,
+            clips: found.clips,
+        },
+        Err(refusal) => HostUses {
+            number: refusal.reason.number(),
+            place: refusal.place,
+            states: [false; MAX_STATES],
+            parameters: [false; MAX_PARAMETERS],
+            clips: [false; MAX_CLIPS],
+        },
     }
 }

@@ -12,6 +12,13 @@ pub const BLOCK_SIZE: usize = 32;
 
 pub const BLOCK_FLOATS: usize = POSE_FLOATS * BLOCK_SIZE;
 
+// A row of joints. Lane i of their block is joint first + i.
+#[derive(Clone, Copy)]
+pub struct Joints {
+    pub first: usize,
+    pub count: usize,
+}
+
 pub fn lane(block: &[f32; BLOCK_FLOATS], j: usize) -> Pose
     requires { j < block_size }
     ensures { result ≡ lane_at block.now j }
@@ -32,14 +39,10 @@ pub fn lane(block: &[f32; BLOCK_FLOATS], j: usize) -> Pose
     }
 }
 
-// Called for the proof alone: of a slice the length is known there, of a reference to an array it is not.
-fn sized(block: &[f32]) {}
-
 pub fn set_lane(block: &mut [f32; BLOCK_FLOATS], j: usize, p: Pose)
     requires { j < block_size }
     ensures { LaneSet block.old j p block.new }
 {
-    sized(block);
     let t = p.translation;
     let q = p.rotation;
     block[j] = t.x;

@@ -7,6 +7,7 @@ use native.Mathlib.Omega.{arith}
 use mathlib.Core.Path.{◌≡◌, refl, ap, sym, subst, ◌∙◌}
 use mathlib.Core.List.{List}
 use lib.ListN.{length}
+use lib.Ieee.{Float}
 use mir.Syntax.{w64}
 use mir.Val.{Fits}
 use Rattle.model.specs.Answers.{accepted}
@@ -23,6 +24,10 @@ use Rattle.layout.specs.Layout.{Passes, Laid, InPlan, layout_of, state_layout}
 -- what a plan that passed is to the laws below
 pub laid_passes : {plan : List ℕ} {layout : Layout} → Laid plan layout → Passes plan
 laid_passes {plan} laid = record { numbers = numbers_length plan; passed = laid.passed }
+
+-- and what a figure's ghost fields say of its check
+pub figure_passed : {plan : List ℕ} {layout : Layout} (numbers : List Float) → Laid plan layout → length numbers ≡ numbers_length plan → check plan (length numbers) ≡ accepted
+figure_passed numbers laid whole = rw whole laid.passed
 
 -- it passes with no other count of numbers
 pub is_laid : (plan : List ℕ) (n : ℕ) (layout : Layout) → check plan n ≡ accepted → layout ≡ layout_of plan → Laid plan layout

@@ -1,32 +1,89 @@
 -- What the check has seen of a node and of a transition, told from their words. Assumes nothing.
 use Prim.Native.Nat.{ℕ, ◌≤◌, ◌<◌}
 use native.Mathlib.Omega.{arith}
-use mathlib.Core.Path.{◌≡◌, ◌∙◌}
-use mathlib.Core.Bool.{true, false}
+use mathlib.Core.Path.{◌≡◌, refl, sym, ap, ◌∙◌}
+use mathlib.Core.Logic.{◌⊎◌, inl, inr}
+use mathlib.Core.Bool.{Bool, true, false, cond}
 use mathlib.Core.List.{List}
 use lib.Dec.{eqb}
-use borrow.Author.Tests.{eq-eqb, ne_eqb}
-use Rattle.model.specs.Plan.{max_parameters, max_nodes, clip_count, state_count, node_count, is_clip}
+use borrow.Author.Tests.{ne_eqb}
+use native.Mathlib.Decide.{ℕ_discrete}
+use Rattle.model.specs.Plan.{max_parameters, max_nodes, clip_count, state_count, node_count, kind, is_clip, is_lerp}
 use Rattle.model.proofs.Laws.State.{a_earlier, b_earlier, clip_below, parameter_below, condition_below, target_below}
 use Rattle.model.proofs.Laws.Passed.{few_parameters}
 use Rattle.layout.specs.declared.StateLayout.{StateLayout}
+use Rattle.layout.specs.Kinds.{kind_of}
+use Rattle.layout.specs.declared.Kind.{Kind}
+use Rattle.layout.specs.declared.Kind.TheVariants as kind
 use Rattle.layout.specs.declared.Node.{Node}
 use Rattle.layout.specs.declared.Condition.{Condition}
 use Rattle.layout.specs.Layout.{Passes, InPlan, node_of, condition_of}
 use Rattle.layout.proofs.Laws.{here_ok, nodes_counted, nodes_few, transitions_counted}
 
+-- ---- what a kind tells of its number
+
+clip_number : (k : ℕ) → kind_of k ≡ kind.Clip → eqb k 0 ≡ true
+unfolding kind_of
+clip_number k h = go (eqb k 0) (eqb k 1) h
+  where
+    go : (zero one : Bool) → cond zero kind.Clip (cond one kind.Lerp kind.Additive) ≡ kind.Clip → zero ≡ true
+    go true one h = refl
+    go false true h = absurd cc
+    go false false h = absurd cc
+
+other_number : (k : ℕ) → (kind_of k ≡ kind.Clip → ⊥) → eqb k 0 ≡ false
+unfolding kind_of
+other_number k h = go (eqb k 0) h
+  where
+    go : (zero : Bool) → (cond zero kind.Clip (cond (eqb k 1) kind.Lerp kind.Additive) ≡ kind.Clip → ⊥) → zero ≡ false
+    go true h = absurd (h refl)
+    go false h = refl
+
+-- the same of a kind that was made from a word
+pub clip_word : (k : ℕ) (x : Kind) → x ≡ kind_of k → x ≡ kind.Clip → eqb k 0 ≡ true
+clip_word k x e h = clip_number k (sym e ∙ h)
+
+pub blend_word : (k : ℕ) (x : Kind) → x ≡ kind_of k → (x ≡ kind.Lerp) ⊎ (x ≡ kind.Additive) → eqb k 0 ≡ false
+blend_word k x e (inl h) = other_number k (λ q. let z : kind.Clip ≡ kind.Lerp = sym q ∙ sym e ∙ h in absurd cc)
+blend_word k x e (inr h) = other_number k (λ q. let z : kind.Clip ≡ kind.Additive = sym q ∙ sym e ∙ h in absurd cc)
+
+lerp_number : (k : ℕ) → kind_of k ≡ kind.Lerp → eqb k 1 ≡ true
+unfolding kind_of
+lerp_number k h = go (eqb k 0) (eqb k 1) h
+  where
+    go : (zero one : Bool) → cond zero kind.Clip (cond one kind.Lerp kind.Additive) ≡ kind.Lerp → one ≡ true
+    go zero true h = refl
+    go true false h = absurd cc
+    go false false h = absurd cc
+
+-- 1 is not 0
+unlike_lerp : (k : ℕ) → (kind_of k ≡ kind.Lerp → ⊥) → eqb k 1 ≡ false
+unfolding kind_of
+unlike_lerp k h = go (ℕ_discrete k 1)
+  where
+    go : Dec (k ≡ 1) → eqb k 1 ≡ false
+    go (yes e) = absurd (h (rw e refl))
+    go (no q) = ne_eqb _ _ q
+
 -- ---- what a node's words tell
 
 module _ (plan : List ℕ) (s i : ℕ) {n : Node} (e : n ≡ node_of plan s i) where
-  pub clip_told : is_clip plan s i ≡ eqb n.kind 0
+  -- a clip, and only that, has the kind of one; a lerp likewise
+  pub is_clip_lem : n.kind ≡ kind.Clip → is_clip plan s i ≡ true
   unfolding node_of is_clip
-  clip_told = rw e
+  is_clip_lem h = clip_number (kind plan s i) (sym (ap (λ n. n.kind) e) ∙ h)
 
-  pub is_clip_lem : n.kind ≡ 0 → is_clip plan s i ≡ true
-  is_clip_lem h = clip_told ∙ eq-eqb _ _ h
+  pub no_clip : (n.kind ≡ kind.Clip → ⊥) → is_clip plan s i ≡ false
+  unfolding node_of is_clip
+  no_clip h = other_number (kind plan s i) (λ q. h (ap (λ n. n.kind) e ∙ q))
 
-  pub no_clip : (n.kind ≡ 0 → ⊥) → is_clip plan s i ≡ false
-  no_clip h = clip_told ∙ ne_eqb _ _ h
+  pub is_lerp_lem : n.kind ≡ kind.Lerp → is_lerp plan s i ≡ true
+  unfolding node_of is_lerp
+  is_lerp_lem h = lerp_number (kind plan s i) (sym (ap (λ n. n.kind) e) ∙ h)
+
+  pub no_lerp : (n.kind ≡ kind.Lerp → ⊥) → is_lerp plan s i ≡ false
+  unfolding node_of is_lerp
+  no_lerp h = unlike_lerp (kind plan s i) (λ q. h (ap (λ n. n.kind) e ∙ q))
 
 -- ---- node i of a state
 

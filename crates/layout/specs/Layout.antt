@@ -4,6 +4,7 @@ use Rattle.std.specs.Prelude.{ℕ, ◌<◌, ◌≡◌, List, Float}
 use Rattle.model.specs.Answers.{accepted}
 use Rattle.model.specs.Check.{check}
 use Rattle.model.specs.Plan.{joint_count, clip_count, state_count, initial_state, state_at, node_count, kind_at, kind, input_a, input_b, node_parameter, transition_count, condition_parameter_at, condition_parameter, operator, target_state, clip_nodes_before, poses_at, number_at, Value, Duration, number, numbers_length}
+use Rattle.layout.specs.Kinds.{kind_of, operator_of}
 use Rattle.layout.specs.declared.Layout.{Layout}
 use Rattle.layout.specs.declared.StateLayout.{StateLayout}
 use Rattle.layout.specs.declared.Node.{Node}
@@ -20,11 +21,11 @@ state_layout plan s =
 
 -- node i of state s
 unfoldable pub node_of : List ℕ → ℕ → ℕ → Node
-node_of plan s i = record { kind = kind plan s i; a = input_a plan s i; b = input_b plan s i; parameter = node_parameter plan s i }
+node_of plan s i = record { kind = kind_of (kind plan s i); a = input_a plan s i; b = input_b plan s i; parameter = node_parameter plan s i }
 
 -- what state s asks before its transition t, and where that leads
 unfoldable pub condition_of : List ℕ → ℕ → ℕ → Condition
-condition_of plan s t = record { parameter = condition_parameter plan s t; operator = operator plan s t; target = target_state plan s t }
+condition_of plan s t = record { parameter = condition_parameter plan s t; operator = operator_of (operator plan s t); target = target_state plan s t }
 
 -- the numbers of transition t of state s
 unfoldable pub numbers_of : List ℕ → List Float → ℕ → ℕ → TransitionNumbers

@@ -7,6 +7,7 @@ ghost use Rattle.model.specs.Text.{max_word};
 ghost use Rattle.model.specs.Plan.{max_joints, max_clips, max_samples, is_root_word, word, joint_count, clip_count, state_count};
 ghost use Rattle.model.specs.Plan.{parent_at, parent, sample_count_at, sample_count, is_stopping};
 ghost use Rattle.model.specs.Plan.{samples_before, number, Rate};
+ghost use Rattle.layout.specs.Kinds.{kind_of, operator_of};
 ghost use Rattle.layout.specs.Layout.{layout_of, state_layout, node_of, condition_of, numbers_of};
 ghost use Rattle.layout.specs.Layout.{Passes, InPlan, HasTransition};
 
@@ -72,18 +73,68 @@ pub struct StateLayout {
     pub clip_node: usize,
 }
 
+// What a node does: it plays a clip, or makes one pose of those of two earlier nodes.
+#[derive(Clone, Copy, PartialEq, Eq)]
+pub enum Kind {
+    Clip,
+    Lerp,
+    Additive,
+}
+
+// By its number in the plan. The check lets none above 2 pass.
+impl From<usize> for Kind {
+    ghost from_gives = { λ number r. r ≡ kind_of number };
+
+    #[tactic(auto, unfolding(crate::specs::Kinds::kind_of))]
+    fn from(number: usize) -> Kind {
+        match number {
+            0 => Kind::Clip,
+            1 => Kind::Lerp,
+            _ => Kind::Additive,
+        }
+    }
+}
+
 #[derive(Clone, Copy)]
 pub struct Node {
-    pub kind: usize,
+    pub kind: Kind,
     pub a: usize,
     pub b: usize,
     pub parameter: usize,
 }
 
+// How a condition compares its parameter, on the left, with its value: < <= > >= == !=.
+#[derive(Clone, Copy, PartialEq, Eq)]
+pub enum Operator {
+    Less,
+    AtMost,
+    Greater,
+    AtLeast,
+    Equal,
+    Unequal,
+}
+
+// By its number in the plan. The check lets none above 5 pass.
+impl From<usize> for Operator {
+    ghost from_gives = { λ number r. r ≡ operator_of number };
+
+    #[tactic(auto, unfolding(crate::specs::Kinds::operator_of))]
+    fn from(number: usize) -> Operator {
+        match number {
+            0 => Operator::Less,
+            1 => Operator::AtMost,
+            2 => Operator::Greater,
+            3 => Operator::AtLeast,
+            4 => Operator::Equal,
+            _ => Operator::Unequal,
+        }
+    }
+}
+
 #[derive(Clone, Copy)]
 pub struct Condition {
     pub parameter: usize,
-    pub operator: usize,
+    pub operator: Operator,
     pub target: usize,
 }
 

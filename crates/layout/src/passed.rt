@@ -5,8 +5,8 @@ ghost use Rattle.layout.specs.Layout.{state_layout, node_of, condition_of};
 ghost use Rattle.layout.specs.Layout.{Laid, InPlan};
 
 use crate::{
-    Condition, Layout, NODE_WORDS, Node, StateLayout, TRANSITION_NUMBERS, TRANSITION_WORDS,
-    sample_count_at, word_there,
+    Condition, Kind, Layout, NODE_WORDS, Node, Operator, StateLayout, TRANSITION_NUMBERS,
+    TRANSITION_WORDS, sample_count_at, word_there,
 };
 
 // The words, which are lent, and what the check found in them.
@@ -101,7 +101,7 @@ impl<'a> State<'a> {
         let plan = self.plan.words;
         let at = self.here.nodes_at + NODE_WORDS * i;
         Node {
-            kind: word_there(plan, at),
+            kind: Kind::from(word_there(plan, at)),
             a: word_there(plan, at + 1),
             b: word_there(plan, at + 2),
             parameter: word_there(plan, at + 3),
@@ -117,7 +117,7 @@ impl<'a> State<'a> {
         let at = self.here.transitions_at + TRANSITION_WORDS * t;
         Condition {
             parameter: word_there(plan, at),
-            operator: word_there(plan, at + 1),
+            operator: Operator::from(word_there(plan, at + 1)),
             target: word_there(plan, at + 2),
         }
     }

@@ -8,12 +8,14 @@ use lib.ListN.{length}
 use lib.Dec.{ltb}
 use lib.Ieee.{Float}
 use borrow.Author.Tests.{lt-ltb, le-ltb, eq-eqb, ne_eqb}
-use Rattle.model.specs.declared.Answer.{Answer}
+use Rattle.std.specs.Prelude.{Result, Ok, Err}
+use Rattle.std.specs.Result.{IsErrAnd}
 use Rattle.model.specs.declared.ClipInstance.{ClipInstance}
 use Rattle.model.specs.declared.LoopCount.{LoopCount}
 use Rattle.model.specs.declared.Player.{Player}
 use Rattle.model.specs.declared.Refusal.{Refusal}
-use Rattle.model.specs.Answers.{accepted, refused, values, ◌then◌, require, unless_refused}
+use Rattle.model.specs.Answers.{accepted, refused, number_of, values, ◌then◌, require}
+use Rattle.model.specs.Check.{check}
 use Rattle.model.specs.Numbers.{floor_index}
 use Rattle.model.specs.Plan.{state_count, node_count, input_a, clip_node_at, sample_count, is_empty, is_stopping}
 use Rattle.model.specs.Clips.{local_time, instance_at, position_of, sampled_position}
@@ -23,84 +25,68 @@ use Rattle.model.specs.Promises.{LoopsCounted}
 use Rattle.model.proofs.Repeats.{equation, bound}
 use Rattle.layout.specs.declared.Layout.{Layout}
 use Rattle.layout.specs.declared.StateLayout.{StateLayout}
+use Rattle.layout.specs.declared.Kind.TheVariants as kind
 use Rattle.layout.specs.declared.Node.{Node}
 use Rattle.layout.specs.Layout.{layout_of, state_layout, node_of}
 use Rattle.layout.proofs.Laws.{states_found, same_state, in_plan, nodes_counted}
 use Rattle.layout.proofs.NodeLaws.{is_clip_lem, no_clip}
-use Rattle.plan.specs.declared.Checked.{Checked}
-use Rattle.plan.specs.declared.Checked.TheVariants as checked
-use Rattle.plan.specs.Checked.{verdict, PlanChecked}
 use Rattle.blend_tree.specs.declared.sampling.Clip.{Clip}
-use Rattle.blend_tree.specs.Blocks.{Playable}
 use Rattle.blend_tree.specs.Sampling.{clip_of, position_at}
-use Rattle.loops.specs.Counting.{NothingCounted, RefusedWith, IndexCounted, CountedAt}
+use Rattle.loops.specs.Counting.{IndexCounted, CountedAt}
 
 -- ---- a verdict, and what is answered by it
 
 module _ (plan : List ℕ) (numbers : List Float) (p : Player) (s n : ℕ) (time : Float) where
-  pub refused_counted : (k m : ℕ) → loops_verdict plan numbers p s n ≡ refused k m 0 → {a : Answer} → values a ≡ refused k m 0 → {r : LoopCount} → NothingCounted a r
-      → LoopsCounted plan numbers p s n time r
-  unfolding unless_refused
-  refused_counted k m v {a} e {r} h =
-      record {
-        answer = ap values h.answer ∙ e ∙ sym v;
-        loops = rw v h.loops;
-        rest = rw v h.rest;
-        equation = λ f. absurd (other (sym v ∙ f));
-        bound = λ f. absurd (other (sym v ∙ f));
-      }
-    where
-      other : refused k m 0 ≡ accepted → ⊥
-      other f = let z : ◌≡◌ {A = ℕ} 0 1 = cc in omega arith
+  pub refused_counted : (r : Result LoopCount Refusal) (e : Refusal) → r ≡ Err e → refused (number_of e.reason) e.place 0 ≡ loops_verdict plan numbers p s n → LoopsCounted plan numbers p s n time r
+  unfolding values
+  refused_counted r e is told = rw is (record { answer = told; loops = tt; rest = tt; equation = tt; bound = tt })
 
   pub accepted_counted : loops_verdict plan numbers p s n ≡ accepted → {samples index : ℕ} → samples ≡ sample_count plan (input_a plan s n) → index ≡ played_index plan numbers p s n time
-      → {r : LoopCount} → IndexCounted samples index r → LoopsCounted plan numbers p s n time r
-  unfolding values unless_refused whole_loops loop_rest
-  accepted_counted v {samples} {index} es ei {r} h =
-      let l : r.loops ≡ whole_loops plan numbers p s n time = h.loops ∙ rw (es, ei) in
-      let k : r.rest ≡ loop_rest plan numbers p s n time = h.rest ∙ rw (es, ei) in
+      → {c : LoopCount} → IndexCounted samples index c → LoopsCounted plan numbers p s n time (Ok c)
+  unfolding values whole_loops loop_rest
+  accepted_counted v {samples} {index} es ei {c} h =
+      let l : c.loops ≡ whole_loops plan numbers p s n time = h.loops ∙ rw (es, ei) in
+      let k : c.rest ≡ loop_rest plan numbers p s n time = h.rest ∙ rw (es, ei) in
       record {
-        answer = ap values h.answer ∙ sym v;
-        loops = rw v l;
-        rest = rw v k;
-        equation = λ f. rw (l, k) (equation plan numbers p s n time f);
-        bound = λ f. rw k (bound plan numbers p s n time f);
+        answer = sym v;
+        loops = l;
+        rest = k;
+        equation = rw (l, k) (equation plan numbers p s n time v);
+        bound = rw k (bound plan numbers p s n time v);
       }
 
   -- ---- refusals 1 to 9
 
-  pub check_handed : (k : Checked) → PlanChecked plan (length numbers) k → (x : Refusal) → k ≡ checked.Refused x → {a : Answer} → values a ≡ verdict k → {r : LoopCount}
-      → NothingCounted a r → LoopsCounted plan numbers p s n time r
-  unfolding verdict loops_verdict ◌then◌
-  check_handed k done x e told =
-      let v = sym done.answer ∙ ap verdict e in
-      refused_counted x.number x.place (rw v) (told ∙ ap verdict e)
+  pub check_handed : (r : Result LoopCount Refusal) (e : Refusal) → IsErrAnd r (λ y. y ≡ e) → {A : Type 0} → values {A = A} (Err e) ≡ check plan (length numbers) → LoopsCounted plan numbers p s n time r
+  unfolding values loops_verdict ◌then◌
+  check_handed (Ok c) e exit told = absurd exit
+  check_handed (Err y) e exit told = refused_counted (Err y) y refl (rw (← told, exit))
 
-  module _ {l : Layout} (ok : Playable plan numbers l) {has : Bool} (told : has ≡ has_states l.states p.state p.transition) where
-    pub player_refused : has ≡ false → {a : Answer} → values a ≡ refused 9 0 0 → {r : LoopCount} → NothingCounted a r → LoopsCounted plan numbers p s n time r
+  module _ (l : Layout) (passed : check plan (length numbers) ≡ accepted) (found : l ≡ layout_of plan) {has : Bool} (told : has ≡ has_states l.states p.state p.transition) where
+    pub player_refused : has ≡ false → (r : Result LoopCount Refusal) (e : Refusal) → r ≡ Err e → refused (number_of e.reason) e.place 0 ≡ refused 9 0 0 → LoopsCounted plan numbers p s n time r
     unfolding loops_verdict ◌then◌ require
-    player_refused f = refused_counted 9 0 (rw (ok.passed, ← states_found plan ok.found, ← told, f))
+    player_refused f r e is nine = refused_counted r e is (nine ∙ rw (passed, ← states_found plan found, ← told, f))
 
-pub player_passes : (plan : List ℕ) (numbers : List Float) (p : Player) {l : Layout} → Playable plan numbers l → {has : Bool} → has ≡ has_states l.states p.state p.transition
+pub player_passes : (plan : List ℕ) (numbers : List Float) (p : Player) (l : Layout) → check plan (length numbers) ≡ accepted → l ≡ layout_of plan → {has : Bool} → has ≡ has_states l.states p.state p.transition
     → has ≡ true → play_verdict plan numbers p ≡ accepted
 unfolding ◌then◌ require
-player_passes plan numbers p ok told t = rw (ok.passed, ← states_found plan ok.found, ← told, t)
+player_passes plan numbers p l passed found told t = rw (passed, ← states_found plan found, ← told, t)
 
 -- ---- refusals 16 and 17, and the count, of any player with these instances
 
 module _ {plan : List ℕ} {numbers : List Float} (instances : List Float) {s n : ℕ} (time : Float) where
-  pub no_clip_node : is_clip_node plan s n ≡ false → {r : LoopCount} → RefusedWith 16 r → CountedAt plan numbers instances s n time r
+  pub no_clip_node : is_clip_node plan s n ≡ false → (e : Refusal) → refused (number_of e.reason) e.place 0 ≡ refused 16 0 0 → CountedAt plan numbers instances s n time (Err e)
   unfolding loops_verdict ◌then◌ require
-  no_clip_node f h = record { count = λ p same ok. refused_counted plan numbers p s n time 16 0 (rw (ok, f)) h.is h.nothing }
+  no_clip_node f e h = record { count = λ p same ok. refused_counted plan numbers p s n time (Err e) e refl (h ∙ rw (ok, f)) }
 
   module _ (node : is_clip_node plan s n ≡ true) where
-    pub not_looping : is_looping plan (input_a plan s n) ≡ false → {r : LoopCount} → RefusedWith 17 r → CountedAt plan numbers instances s n time r
+    pub not_looping : is_looping plan (input_a plan s n) ≡ false → (e : Refusal) → refused (number_of e.reason) e.place 0 ≡ refused 17 0 0 → CountedAt plan numbers instances s n time (Err e)
     unfolding loops_verdict ◌then◌ require
-    not_looping f h = record { count = λ p same ok. refused_counted plan numbers p s n time 17 0 (rw (ok, node, f)) h.is h.nothing }
+    not_looping f e h = record { count = λ p same ok. refused_counted plan numbers p s n time (Err e) e refl (h ∙ rw (ok, node, f)) }
 
     pub node_counted : is_looping plan (input_a plan s n) ≡ true → {samples index : ℕ} → samples ≡ sample_count plan (input_a plan s n)
         → index ≡ floor_index (position_of plan numbers (input_a plan s n) (local_time (instance_at instances (clip_node_at plan s n)) time))
-        → {r : LoopCount} → IndexCounted samples index r → CountedAt plan numbers instances s n time r
+        → {c : LoopCount} → IndexCounted samples index c → CountedAt plan numbers instances s n time (Ok c)
     unfolding loops_verdict ◌then◌ require played_index
     node_counted t es ei h = record { count = λ p same ok. accepted_counted plan numbers p s n time (rw (ok, node, t)) es (rw same ei) h }
 
@@ -126,10 +112,10 @@ module _ (plan : List ℕ) (s n : ℕ) (below : s < state_count plan) {here : St
     found : words ≡ node_of plan s n
     found = read ∙ ap (λ (u : ℕ). node_of plan u n) (same_state plan s there)
 
-    pub no_clip_there : (words.kind ≡ 0 → ⊥) → is_clip_node plan s n ≡ false
+    pub no_clip_there : (words.kind ≡ kind.Clip → ⊥) → is_clip_node plan s n ≡ false
     no_clip_there h = rw (state, node, no_clip plan s n found h)
 
-    pub clip_there : words.kind ≡ 0 → is_clip_node plan s n ≡ true
+    pub clip_there : words.kind ≡ kind.Clip → is_clip_node plan s n ≡ true
     clip_there h = rw (state, node, is_clip_lem plan s n found h)
 
     pub clip_named : words.a ≡ input_a plan s n

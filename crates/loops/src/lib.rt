@@ -5,43 +5,30 @@
 ghost use Rattle.std.specs.Prelude.{◌≡◌, ◌<◌};
 ghost use Rattle.model.specs.Numbers.{floor_index};
 ghost use Rattle.model.specs.Promises.{LoopsCounted};
-ghost use Rattle.blend_tree.specs.Blocks.{Playable};
-ghost use Rattle.loops.specs.Counting.{NothingCounted, RefusedWith, IndexCounted, CountedAt};
+ghost use Rattle.loops.specs.Counting.{IndexCounted, CountedAt};
 
 use animation::instance_at;
 use blend_tree::sampling::{clip_at, clip_position};
 use blend_tree::synchronize::clip_node;
 use float::floor_index;
 use frames::has_states;
-use layout::{Layout, node_at, state_layout};
+use layout::Kind;
+use layout::passed::Figure;
 use model::limits::MAX_INSTANCES;
-use model::{Answer, LoopCount, Player, refused};
-use plan::{Checked, answer_of, check};
-
-// With a refusal.
-fn nothing_counted(refusal: Answer) -> LoopCount
-    ensures { NothingCounted refusal result }
-{
-    LoopCount {
-        answer: refusal,
-        loops: 0,
-        rest: 0,
-    }
-}
+use model::{LoopCount, Player, Reason, Refusal};
+use plan::figure;
 
 // Refusal 16: the state or the node is absent, or the node is no clip.
-fn no_clip_node() -> LoopCount
-    ensures { RefusedWith 16 result }
-{
-    nothing_counted(refused(16, 0))
-}
+const NO_CLIP_NODE: Refusal = Refusal {
+    reason: Reason::ClipNode,
+    place: 0,
+};
 
 // Refusal 17: the clip is empty or stops.
-fn not_looping() -> LoopCount
-    ensures { RefusedWith 17 result }
-{
-    nothing_counted(refused(17, 0))
-}
+const NOT_LOOPING: Refusal = Refusal {
+    reason: Reason::NotLooping,
+    place: 0,
+};
 
 // A position's floor as an index.
 fn played_index(position: f32) -> usize
@@ -56,7 +43,6 @@ fn index_counted(samples: usize, index: usize) -> LoopCount
     ensures { IndexCounted samples index result }
 {
     LoopCount {
-        answer: Answer::Accepted,
         loops: index / samples,
         rest: index % samples,
     }
@@ -64,38 +50,35 @@ fn index_counted(samples: usize, index: usize) -> LoopCount
 
 // Of a figure and a player that pass 1 to 9: refusal 16, then 17, or the count.
 fn count_at(
-    plan: &[u16],
-    numbers: &[f32],
-    layout: Layout,
+    figure: &Figure<'_>,
     instances: &[f32; MAX_INSTANCES],
     state: usize,
     node: usize,
     time: f32,
-) -> LoopCount
-    requires { Playable plan.now numbers.now layout }
-    ensures { CountedAt plan.now numbers.now instances.now state node time result }
+) -> Result<LoopCount, Refusal>
+    ensures { CountedAt figure.now.plan.words.now figure.now.numbers.now instances.now state node time result }
 {
-    if state >= layout.states {
-        return no_clip_node();
+    if state >= figure.plan.layout.states {
+        return Err(NO_CLIP_NODE);
     }
-    let here = state_layout(plan, layout, state);
-    if node >= here.nodes {
-        return no_clip_node();
+    let state = figure.plan.state(state);
+    if node >= state.here.nodes {
+        return Err(NO_CLIP_NODE);
     }
-    let words = node_at(plan, here, node);
-    if words.kind != 0 {
-        return no_clip_node();
-    }
-    let clip = clip_at(plan, numbers, layout, words.a);
+    let words = state.node(node);
+    let Kind::Clip = words.kind else {
+        return Err(NO_CLIP_NODE);
+    };
+    let clip = clip_at(figure, words.a);
     if clip.samples == 0 {
-        return not_looping();
+        return Err(NOT_LOOPING);
     }
     if clip.stops {
-        return not_looping();
+        return Err(NOT_LOOPING);
     }
-    let instance = instance_at(instances, clip_node(plan, here, node));
+    let instance = instance_at(instances, clip_node(&state, node));
     let position = clip_position(clip, instance, time);
-    index_counted(clip.samples, played_index(position))
+    Ok(index_counted(clip.samples, played_index(position)))
 }
 
 pub fn loops(
@@ -105,17 +88,12 @@ pub fn loops(
     state: usize,
     node: usize,
     time: f32,
-) -> LoopCount
+) -> Result<LoopCount, Refusal>
     ensures { LoopsCounted plan.now numbers.now player state node time result }
 {
-    let checked = check(plan, numbers.len());
-    let Checked::Passed(layout) = checked else {
-        return nothing_counted(answer_of(checked));
-    };
-    let transition = player.transition;
-    if !has_states(layout.states, player.state, transition) {
-        return nothing_counted(refused(9, 0));
+    let figure = figure(plan, numbers)?;
+    if !has_states(figure.plan.layout.states, player.state, player.transition) {
+        return Err(Reason::State.at(0));
     }
-    let instances = player.instances;
-    count_at(plan, numbers, layout, &instances, state, node, time)
+    count_at(&figure, &player.instances, state, node, time)
 }

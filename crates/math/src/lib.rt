@@ -19,7 +19,7 @@ pub fn first_guess(bits: u32) -> u32
     } else {
         (bits >> 1) + 0x8000_0000
     };
-    std::num::wrapping_sub_u32(0x5f37_59df, shifted)
+    0x5f37_59df_u32.wrapping_sub(shifted)
 }
 
 pub fn inv_sqrt(x: f32) -> f32

@@ -1,6 +1,6 @@
 -- Demand 3 is not vacuous: whatever calls one lists, an accepted start has a session of them; changing an unseen number, or a value set on an unread
 -- parameter, keeps two figures or calls alike; and accepted figures have unseen numbers of every kind.
-use Rattle.std.specs.Prelude.{ℕ, ◌<◌, ◌≡◌, Bool, true, false, length, get_or, set, replicate, T, Float}
+use Rattle.std.specs.Prelude.{ℕ, ◌<◌, ◌≡◌, Bool, true, false, length, get_or, set, replicate, T, Float, Result, Ok, Err}
 use Rattle.std.proofs.Common.{arith, sym, ap, ap₂, ◌∙◌, subst, inl, length-set, get_or-set_other}
 use Rattle.std.proofs.Math.Decide.{ℕ_discrete}
 use Rattle.std.proofs.Math.Path.{refl}
@@ -11,7 +11,9 @@ use Rattle.model.specs.declared.Player.{Player}
 use Rattle.model.specs.declared.Outcome.{Outcome}
 use Rattle.model.specs.declared.LoopCount.{LoopCount}
 use Rattle.model.specs.Numbers.{0f}
-use Rattle.model.specs.declared.Answer.{Answer}
+use Rattle.std.specs.Result.{result_and}
+use Rattle.model.specs.declared.Reason.TheVariants as reason
+use Rattle.model.specs.declared.Refusal.{Refusal}
 use Rattle.model.specs.Answers.{accepted, values, unless_refused}
 use Rattle.model.specs.Plan.{joint_count, is_root, Rate, Value, Duration, PoseFloat}
 use Rattle.model.specs.Check.{check}
@@ -40,18 +42,12 @@ pub record Performed (plan : List ℕ) (numbers : List Float) (p : Player) (cs :
   pub called : calls events ≡ cs
 
 -- the definition's own numbers keep the promise
-told_counted : (plan : List ℕ) (numbers : List Float) (p : Player) (s n : ℕ) (time : Float) {a : Answer} → values a ≡ loops_verdict plan numbers p s n
-    → let v = loops_verdict plan numbers p s n in
-    LoopsCounted plan numbers p s n time (record { answer = a; loops = unless_refused v (whole_loops plan numbers p s n time) 0; rest = unless_refused v (loop_rest plan numbers p s n time) 0 })
-unfolding unless_refused
-told_counted plan numbers p s n time e =
-    record {
-      answer = e;
-      loops = refl;
-      rest = refl;
-      equation = λ f. rw f (equation plan numbers p s n time f);
-      bound = λ f. rw f (bound plan numbers p s n time f);
-    }
+counted : (plan : List ℕ) (numbers : List Float) (p : Player) (s n : ℕ) (time : Float) (a : Result Unit Refusal) → values a ≡ loops_verdict plan numbers p s n
+    → LoopsCounted plan numbers p s n time (result_and a (Ok (record { loops = whole_loops plan numbers p s n time; rest = loop_rest plan numbers p s n time })))
+unfolding values
+counted plan numbers p s n time (Ok _) e =
+    record { answer = e; loops = refl; rest = refl; equation = equation plan numbers p s n time (sym e); bound = bound plan numbers p s n time (sym e) }
+counted plan numbers p s n time (Err r) e = record { answer = e; loops = tt; rest = tt; equation = tt; bound = tt }
 
 module _ (plan : List ℕ) (numbers : List Float) where
   pub perform : (p : Player) (cs : List Call) → Performed plan numbers p cs
@@ -63,7 +59,7 @@ module _ (plan : List ℕ) (numbers : List Float) where
       let f : Performed plan numbers (with_speed p v) cs = perform (with_speed p v) cs in
       record { events = _; trace = set_speed v (record { player = refl }) f.trace; called = ap (λ (l : List Call). Speed v ∷ l) f.called }
   perform p (Set n v ∷ cs) =
-      let x : Answerable (set_verdict n) = require_answerable _ _ _ in
+      let x : Answerable (set_verdict n) = require_answerable reason.Parameter _ _ in
       let r : Outcome = record { answer = x.answer; player = unless_refused (set_verdict n) (parameter_set p n v) p } in
       let f : Performed plan numbers r.player cs = perform r.player cs in
       record { events = _; trace = set_parameter {r = r} n v (record { answer = x.is; player = refl }) f.trace; called = ap (λ (l : List Call). Set n v ∷ l) f.called }
@@ -81,9 +77,8 @@ module _ (plan : List ℕ) (numbers : List Float) where
   perform p (Loops s n time ∷ cs) =
       let v = loops_verdict plan numbers p s n in
       let x : Answerable v = loops_answerable plan numbers p s n in
-      let r : LoopCount = record { answer = x.answer; loops = unless_refused v (whole_loops plan numbers p s n time) 0; rest = unless_refused v (loop_rest plan numbers p s n time) 0 } in
       let f : Performed plan numbers p cs = perform p cs in
-      record { events = _; trace = ask_loops {r = r} s n time (told_counted plan numbers p s n time x.is) f.trace; called = ap (λ (l : List Call). Loops s n time ∷ l) f.called }
+      record { events = _; trace = ask_loops s n time (counted plan numbers p s n time x.answer x.is) f.trace; called = ap (λ (l : List Call). Loops s n time ∷ l) f.called }
 
   -- and a session from every accepted start
   pub every_session : start_verdict plan numbers ≡ accepted → (cs : List Call) → Session plan numbers (perform (start_player plan numbers) cs).events

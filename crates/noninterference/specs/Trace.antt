@@ -1,9 +1,10 @@
 -- What is known of a program that makes calls on one figure: each keeps its promise, and the next gets the player that it returned. Definitions only.
-use Rattle.std.specs.Prelude.{ℕ, ◌≡◌, cond, List, [], ◌∷◌, map, length, take, drop, Float}
+use Rattle.std.specs.Prelude.{ℕ, ◌≡◌, cond, List, [], ◌∷◌, map, length, take, drop, Float, Result, Ok, Err}
 use Rattle.model.specs.declared.Player.{Player}
 use Rattle.model.specs.declared.Outcome.{Outcome}
 use Rattle.model.specs.declared.FrameKind.{FrameKind}
 use Rattle.model.specs.declared.LoopCount.{LoopCount}
+use Rattle.model.specs.declared.Refusal.{Refusal}
 use Rattle.model.specs.Answers.{Verdict, accepted, values}
 use Rattle.model.specs.Plan.{output_at}
 use Rattle.model.specs.Run.{Call, Update, Speed, Set, Frame, Loops, Observation, observation}
@@ -18,6 +19,11 @@ pub record Event : Type 0 where
   pub output : List Float
   pub told : List ℕ
 
+-- loops and rest, which are 0 where the question is refused
+abbrev pub counts_told : Result LoopCount Refusal → List ℕ
+counts_told (Ok c) = c.loops ∷ c.rest ∷ []
+counts_told (Err e) = 0 ∷ 0 ∷ []
+
 -- the calls' events from a player on; each step is the promise that the call's contract ensures
 pub data Trace (plan : List ℕ) (numbers : List Float) : Player → List Event → Type 0 where
   end : {p : Player} → Trace plan numbers p []
@@ -30,8 +36,8 @@ pub data Trace (plan : List ℕ) (numbers : List Float) : Player → List Event 
   frame : {p : Player} {r : Outcome} {es : List Event} (kind : FrameKind) (ext : Float) (old new : List Float) → Framed kind plan numbers p ext old new r → Trace plan numbers r.player es
       → Trace plan numbers p (record { call = Frame kind ext (length old); answer = values r.answer; player = r.player; output = new; told = [] } ∷ es)
   -- a question only reads the player: the next call gets the same
-  ask_loops : {p : Player} {r : LoopCount} {es : List Event} (s n : ℕ) (time : Float) → LoopsCounted plan numbers p s n time r → Trace plan numbers p es
-      → Trace plan numbers p (record { call = Loops s n time; answer = values r.answer; player = p; output = []; told = r.loops ∷ r.rest ∷ [] } ∷ es)
+  ask_loops : {p : Player} {r : Result LoopCount Refusal} {es : List Event} (s n : ℕ) (time : Float) → LoopsCounted plan numbers p s n time r → Trace plan numbers p es
+      → Trace plan numbers p (record { call = Loops s n time; answer = values r; player = p; output = []; told = counts_told r } ∷ es)
 
 -- a trace that begins with an accepted start
 pub record Session (plan : List ℕ) (numbers : List Float) (es : List Event) : Type 0 where

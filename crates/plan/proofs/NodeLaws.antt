@@ -42,13 +42,13 @@ module _ (plan : List ℕ) (node : NodePlace) (counts : Counts) (marks : List Bo
   abbrev kind_word : Verdict
   kind_word = word_is plan 4 node.at (leb (word plan node.at) 2)
 
-  pub clip_goes : word plan node.at ≡ 0 → kind_word then check_clip_node plan node counts ≡ check_node_at plan node counts marks
+  pub clip_goes : eqb (word plan node.at) 0 ≡ true → kind_word then check_clip_node plan node counts ≡ check_node_at plan node counts marks
   unfolding check_node_at
-  clip_goes z = rw (eq-eqb (word plan node.at) 0 z)
+  clip_goes z = rw z
 
-  pub blend_goes : (word plan node.at ≡ 0 → ⊥) → kind_word then check_blend_node plan node counts marks ≡ check_node_at plan node counts marks
+  pub blend_goes : eqb (word plan node.at) 0 ≡ false → kind_word then check_blend_node plan node counts marks ≡ check_node_at plan node counts marks
   unfolding check_node_at
-  blend_goes z = rw (ne_eqb (word plan node.at) 0 z)
+  blend_goes z = rw z
 
   -- one that passed has earlier nodes for inputs
   module _ (ok : check_node_at plan node counts marks ≡ accepted) where

@@ -1,8 +1,9 @@
 // The check of a plan, front to back in one pass, and the layout that it finds.
 #![tactic(auto)]
 
-ghost use Rattle.std.specs.Prelude.{◌≡◌};
+ghost use Rattle.std.specs.Prelude.{◌≡◌, length, IfOk};
 ghost use Rattle.model.specs.Answers.{values};
+ghost use Rattle.model.specs.Check.{check};
 ghost use Rattle.plan.specs.Checked.{PlanChecked};
 ghost use Rattle.model.specs.Plan.{state_count, transitions_before, plan_end};
 ghost use Rattle.layout.specs.Layout.{layout_of};
@@ -10,6 +11,7 @@ ghost use Rattle.plan.specs.Parts.{WordsChecked, Worded, LengthsChecked};
 
 use crate::states::{States, check_states};
 use crate::words::{Counts, check_clips, check_header, check_parents};
+use layout::passed::{Figure, Plan};
 use layout::{
     CLIP_COUNT_AT, INITIAL_STATE_AT, JOINT_COUNT_AT, Layout, PARAMETER_COUNT_AT, STATE_COUNT_AT,
     TRANSITION_NUMBERS, sample_count_at, samples_before, word,
@@ -21,8 +23,8 @@ pub mod nodes;
 pub mod states;
 pub mod words;
 
-// Without the layout.
-pub fn answer_of(checked: Result<Layout, Refusal>) -> Answer
+// Without what an acceptance hands back.
+pub fn answer_of<T: Copy>(checked: Result<T, Refusal>) -> Answer
     ensures { values result ≡ values checked }
 {
     match checked {
@@ -94,4 +96,20 @@ pub fn check(plan: &[u16], numbers: usize) -> Result<Layout, Refusal>
 {
     let words = check_words(plan)?;
     check_lengths(plan, numbers, words.end, words.transitions)
+}
+
+// The figure of a plan and its numbers, where both pass.
+pub fn figure<'a>(plan: &'a [u16], numbers: &'a [f32]) -> Result<Figure<'a>, Refusal>
+    ensures answer { values result ≡ check plan.entry.now (length numbers.entry.now) }
+    ensures words { IfOk result (λ figure. figure.plan.words ≡ plan.entry) }
+    ensures numbers { IfOk result (λ figure. figure.numbers ≡ numbers.entry) }
+{
+    let layout = check(plan, numbers.len())?;
+    Ok(Figure {
+        plan: Plan {
+            words: plan,
+            layout,
+        },
+        numbers,
+    })
 }

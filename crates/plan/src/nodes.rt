@@ -7,7 +7,7 @@ ghost use Rattle.plan.specs.Parts.{is_free, check_clip_node, check_blend_node, c
 ghost use Rattle.plan.specs.Parts.{CountsOf, HasInputs, NodesChecked};
 
 use crate::words::{Counts, word_below, word_is, word_up_to};
-use layout::{NODE_WORDS, word};
+use layout::{Kind, NODE_WORDS, word};
 use model::limits::{MAX_CLIP_NODES, MAX_NODES};
 use model::{Answer, Reason, Refusal};
 
@@ -68,10 +68,10 @@ fn check_node(plan: &[u16], node: NodePlace, counts: Counts, used: &[bool; MARKS
     ensures { values result ≡ check_node_at plan.now node counts used.now }
 {
     word_up_to(plan, Reason::Node, node.at, 2)?;
-    if word(plan, node.at) == 0 {
-        return check_clip_node(plan, node, counts);
+    match Kind::from(word(plan, node.at)) {
+        Kind::Clip => check_clip_node(plan, node, counts),
+        Kind::Lerp | Kind::Additive => check_blend_node(plan, node, counts, used),
     }
-    check_blend_node(plan, node, counts, used)
 }
 
 // The marks after the node whose kind is the word `at`.
@@ -79,12 +79,14 @@ fn marked(plan: &[u16], at: usize, used: [bool; MARKS]) -> [bool; MARKS]
     requires { (at ≤ max_word) × HasInputs plan.now at }
     ensures { result ≡ marks_after plan.now at used }
 {
-    if word(plan, at) == 0 {
-        return used;
-    }
     let mut marks = used;
-    marks[word(plan, at + 1)] = true;
-    marks[word(plan, at + 2)] = true;
+    match Kind::from(word(plan, at)) {
+        Kind::Clip => {}
+        Kind::Lerp | Kind::Additive => {
+            marks[word(plan, at + 1)] = true;
+            marks[word(plan, at + 2)] = true;
+        }
+    }
     marks
 }
 
@@ -93,10 +95,10 @@ fn counted(plan: &[u16], at: usize, clip_node: usize) -> usize
     requires { clip_node ≤ max_word }
     ensures { result ≡ clip_node_after plan.now at clip_node }
 {
-    if word(plan, at) == 0 {
-        return clip_node + 1;
+    match Kind::from(word(plan, at)) {
+        Kind::Clip => clip_node + 1,
+        Kind::Lerp | Kind::Additive => clip_node,
     }
-    clip_node
 }
 
 // The first n nodes of the state whose K is the word `at`, and their marks.

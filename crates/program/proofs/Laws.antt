@@ -10,9 +10,9 @@ use Rattle.model.specs.declared.FrameKind.TheVariants.{Ordinary}
 use Rattle.model.specs.declared.Outcome.{Outcome}
 use Rattle.model.specs.declared.Player.{Player}
 use Rattle.model.specs.declared.Refusal.{Refusal}
-use Rattle.model.specs.declared.Answer.TheVariants as answer
+use Rattle.std.specs.Prelude.{Ok, Err}
 use Rattle.model.specs.Numbers.{0f}
-use Rattle.model.specs.Answers.{accepted, values, ◌then◌, require, unless_refused}
+use Rattle.model.specs.Answers.{accepted, number_of, values, ◌then◌, require, unless_refused}
 use Rattle.model.specs.Plan.{max_joints, max_output, joint_count_at, word, joint_count, state_count}
 use Rattle.model.specs.Plan.{initial_state, output_at}
 use Rattle.model.specs.Controller.{blank, fresh, is_target_below, frame_verdict}
@@ -53,12 +53,12 @@ module _ (plan : List ℕ) (numbers : List Float) (started : start_verdict plan 
 -- ---- a start
 
 module _ (plan : List ℕ) (numbers : List Float) (r : Outcome) (done : Started plan numbers r) where
-  pub refusal_played : (f : Refusal) → r.answer ≡ answer.Refused f
-      → refused_line f.number f.place ≡ figure_printed plan numbers
+  pub refusal_played : (f : Refusal) → r.answer ≡ Err f
+      → refused_line (number_of f.reason) f.place ≡ figure_printed plan numbers
   unfolding values played
   refusal_played f e = rw (← done.answer, e)
 
-  module _ (e : r.answer ≡ answer.Accepted) where
+  module _ (x : Unit {0}) (e : r.answer ≡ Ok x) where
     pub start_accepted : start_verdict plan numbers ≡ accepted
     unfolding values
     start_accepted = sym done.answer ∙ ap values e

@@ -13,8 +13,8 @@ ghost use Rattle.program.specs.Questions.{shown};
 use controller::{frame, start};
 use inspect_uses::show_uses;
 use layout::{JOINT_COUNT_AT, MAX_PLAN, word};
+use model::Player;
 use model::limits::{MAX_NUMBERS, MAX_OUTPUT};
-use model::{Answer, Player, TextAnswer};
 use printing::{MAX_PRINTED, put_joints, put_refusal};
 use program_text::read_program_text;
 
@@ -35,13 +35,9 @@ fn play(plan: &[u16], numbers: &[f32], out: &mut [u8]) -> usize
     ensures { Front (figure_printed plan.now numbers.now) out.old out.new result }
 {
     let begun = start(plan, numbers);
-    let started = begun.answer;
-    match started {
-        Answer::Refused(refusal) => put_refusal(out, 0, refusal),
-        Answer::Accepted => {
-            let player = begun.player;
-            first_frame(plan, numbers, player, out)
-        }
+    match begun.answer {
+        Err(refusal) => put_refusal(out, 0, refusal),
+        Ok(()) => first_frame(plan, numbers, begun.player, out),
     }
 }
 
@@ -68,12 +64,8 @@ pub fn answer(question: Question, text: &[u8], out: &mut [u8; MAX_PRINTED]) -> u
 {
     let mut plan = [0u16; MAX_PLAN];
     let mut numbers = [0.0f32; MAX_NUMBERS];
-    let read = read_program_text(text, &mut plan, &mut numbers);
-    match read {
-        TextAnswer::Refused(refusal) => put_refusal(out, 0, refusal),
-        TextAnswer::Accepted {
-            words,
-            numbers: count,
-        } => show(question, &plan[..words], &numbers[..count], out),
+    match read_program_text(text, &mut plan, &mut numbers) {
+        Err(refused) => put_refusal(out, 0, refused),
+        Ok(read) => show(question, &plan[..read.words], &numbers[..read.numbers], out),
     }
 }

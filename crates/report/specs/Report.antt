@@ -1,8 +1,9 @@
 -- What a list of calls shows, as text: an answer, the player, the joints' matrices. Definitions only.
-use Rattle.std.specs.Prelude.{ℕ, List, [], ◌∷◌, ◌++◌, length, get_or, Float}
+use Rattle.std.specs.Prelude.{ℕ, List, [], ◌∷◌, ◌++◌, length, get_or, Float, Option, None, Some}
 use Rattle.std.specs.Float.{binary64}
 use Rattle.std.specs.Float.Ieee.{to_bits}
 use Rattle.model.specs.declared.Player.{Player}
+use Rattle.model.specs.declared.LoopCount.{LoopCount}
 use Rattle.model.specs.declared.ClipInstance.{ClipInstance}
 use Rattle.model.specs.declared.Transition.{Transition}
 use Rattle.model.specs.declared.Transition.TheVariants.{Idle, Running}
@@ -14,8 +15,6 @@ use Rattle.model.specs.Program.{digits, decimal_fields, refused_line, joint_line
 use Rattle.model.specs.Table.{table_to}
 use Rattle.model.specs.Run.{Observation}
 use Rattle.printing.specs.Written.{float_fields}
-use Rattle.report.specs.declared.Told.{Told}
-use Rattle.report.specs.declared.Told.TheVariants.{Nothing, Loops}
 
 -- the bits of a 64-bit float, every NaN as 7ff8000000000000, which is how to_bits writes it
 abbrev pub wide_text : Float → List ℕ
@@ -60,10 +59,10 @@ unfoldable pub told_text : List ℕ → List ℕ
 told_text [] = []
 told_text (v ∷ vs) = (108 ∷ 111 ∷ 111 ∷ 112 ∷ 115 ∷ []) ++ decimal_fields (v ∷ vs) ++ line_feed ∷ []
 
--- the program's enum, as the model's `told` has it
-unfoldable pub told_values : Told → List ℕ
-told_values Nothing = []
-told_values (Loops loops rest) = loops ∷ rest ∷ []
+-- what the program hands over, as the model's `told` has it
+unfoldable pub told_values : Option LoopCount → List ℕ
+told_values None = []
+told_values (Some count) = count.loops ∷ count.rest ∷ []
 
 -- ---- the rest of the player, once the calls are done
 

@@ -1,25 +1,24 @@
 -- Laws of the kinds of line and of the reading of one, over plain values. Assumes nothing.
 use Prim.Native.Nat.{ℕ, zero, suc, ◌+◌, ◌-◌, ◌≤◌, ◌<◌}
-use native.Mathlib.Nat.{sub_self, sub-zero}
+use native.Mathlib.Nat.{sub_self}
+use native.Mathlib.Numerals.{add-one}
 use native.Mathlib.Omega.{arith}
 use mathlib.Core.Path.{◌≡◌, refl, sym, ap, subst, ◌∙◌}
 use mathlib.Core.Bool.{Bool, true, false, cond}
 use mathlib.Core.List.{List, [], ◌∷◌}
 use lib.Dec.{T, leb, eqb, leb→le}
-use lib.ListN.{length, get_or, take, drop, set, replicate, length-drop, get_or-replicate}
-use lib.Seq.{get_or-take, get_or-drop, drop-nil, drop-cons, drop-length, drop-drop}
+use lib.ListN.{length, get_or, drop, drop_of_length-le, set, length-drop}
+use lib.Seq.{drop-nil, drop-cons, drop-drop}
 use borrow.Author.Tests.{eq-eqb, ne_eqb}
 use Rattle.model.specs.declared.LineKind.{LineKind}
 use Rattle.model.specs.declared.LineKind.TheVariants.{Figure, Joint, Clip, State, Node, Go, Pose}
 use Rattle.model.specs.declared.FieldForm.{FieldForm}
-use Rattle.model.specs.declared.FieldForm.TheVariants.{Decimal, Bits}
-use Rattle.model.specs.Text.{front, comma, line_feed, digit_count, numeral, base_of, is_field, max_word, none, field, name, forms, field_count, form_of}
+use Rattle.model.specs.Text.{Field, front, comma, line_feed, digit_count, numeral, base_of, is_field, none, field, name, forms, field_count}
 use Rattle.model.specs.Text.{Line, malformed, line, with_field, field_then, field_in, fields_in, begins, line_in}
-use Rattle.fields.proofs.Bytes.{front_at, positive, positive_at}
-use Rattle.text.specs.declared.lines.LineReading.{LineReading}
-use Rattle.text.specs.declared.lines.LineEnd.TheVariants.{At, Malformed}
+use Rattle.fields.proofs.Bytes.{front_at, inside, positive, positive_at}
+use Rattle.std.specs.Prelude.{Some, None}
 use Rattle.text.specs.LineFound.{max_fields, no_values, found_end, found_values, LineFound}
-use Rattle.text.specs.LineReading.{in_array, line_from, FieldStep}
+use Rattle.text.specs.LineReading.{comma_field, Stepped, in_array, line_from}
 
 -- ---- the kinds
 
@@ -43,30 +42,6 @@ name_positive kind = positive_at (name kind) (sized kind).2
 pub fields_few : (kind : LineKind) → field_count kind ≤ max_fields
 fields_few kind = leb→le (field_count kind) max_fields (sized kind).1
 
--- from field n on there are float bits alone, and so past the last field
-only_bits : (m i : ℕ) → get_or (replicate m Bits) i Bits ≡ Bits
-only_bits zero i = refl
-only_bits (suc m) zero = refl
-only_bits (suc m) (suc i) = only_bits m i
-
-module _ {kind is : LineKind} {k : ℕ} (n : ℕ) (e : kind ≡ is) where
-  pub bits_from : (m : ℕ) → drop n (forms is) ≡ replicate m Bits → n ≤ k → Bits ≡ form_of kind k
-  bits_from m p h =
-      let i : n + (k - n) ≡ k = omega arith in
-      rw (e, ← i, ← get_or-drop n (forms is) (k - n) Bits, p, only_bits m (k - n))
-
-  -- up to field n there are words alone
-  pub words_to : take n (forms is) ≡ replicate n (Decimal max_word) → k < n → Decimal max_word ≡ form_of kind k
-  words_to p h = rw (e, ← get_or-take n (forms is) k Bits h, p, get_or-replicate n k (Decimal max_word) Bits h)
-
--- a clip's fields are words but for its rate
-pub clip_bits : {kind : LineKind} {k : ℕ} → kind ≡ Clip → (k ≡ 0 → ⊥) → (k ≡ 2 → ⊥) → Bits ≡ form_of kind k
-unfolding forms
-clip_bits {k = zero} e first third = absurd (first refl)
-clip_bits {k = suc zero} e first third = rw e
-clip_bits {k = suc (suc zero)} e first third = absurd (third refl)
-clip_bits {k = suc (suc (suc k))} e first third = rw e
-
 -- ---- fields
 
 one_more : (k : ℕ) (array : List ℕ) (v : ℕ) (l : Line) → in_array k array (with_field v l) ≡ in_array (suc k) (set array k v) l
@@ -74,47 +49,42 @@ unfolding with_field
 one_more k array v malformed = refl
 one_more k array v (line vs rest) = refl
 
--- b is the byte before field k, the first of those that are left
-module _ (kind : LineKind) (text : List ℕ) (at : ℕ) (before : LineReading) (some : 1 ≤ before.left) (few : before.left ≤ field_count kind)
-    {b : ℕ} (is : b ≡ get_or text at 0) where
-  abbrev k : ℕ
-  k = field_count kind - before.left
+-- b is the byte before a field
+module _ (form : FieldForm) (text : List ℕ) (at : ℕ) {b : ℕ} (is : b ≡ get_or text at 0) where
+  comma_opened : comma_field form (drop at text) ≡ cond (eqb b comma) (field_in form (drop (at + 1) text)) none
+  unfolding comma_field
+  comma_opened = rw (front_at text at is, drop-drop 1 at text)
 
-  opened : fields_in (drop k (forms kind)) (drop at text)
-      ≡ cond (eqb b comma) (field_then (field_in (form_of kind k) (drop (at + 1) text)) (fields_in (drop (suc k) (forms kind)))) malformed
-  unfolding fields_in
-  opened = rw (drop-cons (forms kind) k Bits (omega arith), front_at text at is, drop-drop 1 at text)
+  pub no_comma : (b ≡ comma → ⊥) → comma_field form (drop at text) ≡ none
+  no_comma h = rw (comma_opened, ne_eqb _ _ h)
 
-  -- nothing is left, and at the text's end no line feed stands
-  abbrev Stopped : List ℕ → Type 0
-  Stopped values = FieldStep kind text at before (record { values = values; left = 0; end = length text })
+  pub comma_there : b ≡ comma → comma_field form (drop at text) ≡ field_in form (drop (at + 1) text)
+  comma_there e = rw (comma_opened, eq-eqb _ _ e)
 
-  stops : {values : List ℕ} → fields_in (drop k (forms kind)) (drop at text) ≡ malformed → Stopped values
-  unfolding line_from fields_in
-  stops h = record { fewer = some; same = rw (h, sub-zero, drop-length (forms kind), drop-length text) }
+comma_then : (t : Bool) (f : Field) (more : List ℕ → Line) → cond t (field_then f more) malformed ≡ field_then (cond t f none) more
+unfolding field_then
+comma_then true f more = refl
+comma_then false f more = refl
 
-  pub no_comma : {values : List ℕ} → (b ≡ comma → ⊥) → Stopped values
-  no_comma h = stops (rw (opened, ne_eqb _ _ h))
+-- the next of a line's fields, as a loop over their forms has it: k is its number, d what stands past the last
+module _ (kind : LineKind) (text : List ℕ) (items : List FieldForm) (seen : List ℕ) (k at : ℕ) (values : List ℕ) (d : FieldForm)
+    (all : items ≡ forms kind) (whole : seen ≡ text) (h : k < length items) where
+  opened : fields_in (drop k (forms kind)) (drop at text) ≡ field_then (comma_field (get_or items k d) (drop at seen)) (fields_in (drop (suc k) (forms kind)))
+  unfolding fields_in comma_field
+  opened = rw (← all, whole, drop-cons items k d h) (comma_then (eqb (front (drop at text)) comma) _ _)
 
-  -- its form is `form`
-  module _ (separated : b ≡ comma) {form : FieldForm} {i : ℕ} (e : form ≡ form_of kind i) (place : i ≡ k) where
-    goes : fields_in (drop k (forms kind)) (drop at text) ≡ field_then (field_in form (drop (at + 1) text)) (fields_in (drop (suc k) (forms kind)))
-    goes = rw (opened, eq-eqb _ _ separated, e, place)
+  pub next_missing : (after : ℕ) → Stepped (get_or items k d) seen at after None → line_from kind text k values at ≡ malformed
+  unfolding line_from field_then
+  next_missing after s = rw (opened, s.1)
 
-    pub no_field : {values : List ℕ} → field_in form (drop (at + 1) text) ≡ none → Stopped values
-    unfolding field_then
-    no_field h = stops (rw (goes, h))
-
-    pub field_goes : {value end : ℕ} → field_in form (drop (at + 1) text) ≡ field value (drop end text)
-        → FieldStep kind text at before (record { values = set before.values i value; left = before.left - 1; end = end })
-    unfolding line_from field_then
-    field_goes h =
-        let next : field_count kind - (before.left - 1) ≡ suc k = omega arith in
-        record { fewer = omega arith; same = rw (goes, h, one_more, next, place) }
+  pub next_read : (v after : ℕ) → Stepped (get_or items k d) seen at after (Some v)
+      → line_from kind text (k + 1) (set values k v) after ≡ line_from kind text k values at
+  unfolding line_from field_then
+  next_read v after s = rw (opened, s, one_more, add-one k, whole)
 
 -- ---- what `line_at` makes of a line
 
-pub malformed_found : (text old : List ℕ) {l : Line} → l ≡ malformed → LineFound text l Malformed old old
+pub malformed_found : (text old : List ℕ) {l : Line} → l ≡ malformed → LineFound text l None old old
 unfolding found_end found_values
 malformed_found text old e = rw e record { answer = refl; values = refl }
 
@@ -135,33 +105,37 @@ in_array_malformed k array malformed e = refl
 in_array_malformed k array (line vs rest) e = absurd (subst IsLine e tt)
 
 in_array_found : (text old values : List ℕ) (end : ℕ) (l : Line) → end ≤ length text → in_array 0 no_values l ≡ line values (drop end text)
-    → LineFound text l (At end) old values
+    → LineFound text l (Some end) old values
 unfolding found_end found_values
 in_array_found text old values end malformed h e = absurd (subst IsLine (sym e) tt)
 in_array_found text old values end (line vs rest) h e =
     let far : length rest ≡ length (drop end text) = ap (λ l. length (rest_of l)) e in
     let place : end ≡ length text - length rest = omega (arith, far, length-drop end text) in
-    record { answer = ap At place; values = sym (ap values_of e) }
+    record { answer = ap Some place; values = sym (ap values_of e) }
 
--- from a line of which nothing is read to one of which only the line feed may be left
-module _ (kind : LineKind) (text old : List ℕ) (begun reading : LineReading) (all : begun.left ≡ field_count kind) (none : begun.values ≡ no_values)
-    (done : reading.left ≡ 0) (same : line_from kind text reading.end reading ≡ line_from kind text begun.end begun)
-    {b : ℕ} (is : b ≡ get_or text reading.end 0) where
+-- from a line of which nothing is read to one that is malformed, or of which only the line feed may be left
+module _ (kind : LineKind) (text old values : List ℕ) (k at end : ℕ) (same : line_from kind text k values end ≡ line_from kind text 0 no_values at) where
   abbrev here : Line
-  here = fields_in (forms kind) (drop begun.end text)
+  here = fields_in (forms kind) (drop at text)
 
-  end_opened : in_array 0 no_values here
-      ≡ in_array (field_count kind) reading.values (cond (eqb b line_feed) (line [] (drop (reading.end + 1) text)) malformed)
-  unfolding line_from fields_in
-  end_opened =
-      sym (rw (all, none, done, sub_self, sub-zero) at same)
-      ∙ rw (drop-length (forms kind), front_at text reading.end is, drop-drop 1 reading.end text)
+  begun : line_from kind text 0 no_values at ≡ in_array 0 no_values here
+  unfolding line_from
+  begun = refl
 
-  pub no_line_feed : (b ≡ line_feed → ⊥) → LineFound text here Malformed old old
-  no_line_feed h = malformed_found text old (in_array_malformed 0 no_values here (rw (end_opened, ne_eqb _ _ h)))
+  pub field_missing : line_from kind text k values end ≡ malformed → LineFound text here None old old
+  field_missing e = malformed_found text old (in_array_malformed 0 no_values here (sym begun ∙ sym same ∙ e))
 
-  pub fields_read : b ≡ line_feed → reading.end + 1 ≤ length text → LineFound text here (At (reading.end + 1)) old reading.values
-  fields_read h inside = in_array_found text old reading.values (reading.end + 1) here inside (rw (end_opened, eq-eqb _ _ h))
+  -- b is the byte behind the last field
+  module _ (done : field_count kind ≤ k) {b : ℕ} (is : b ≡ get_or text end 0) where
+    end_opened : in_array 0 no_values here ≡ in_array k values (cond (eqb b line_feed) (line [] (drop (end + 1) text)) malformed)
+    unfolding line_from fields_in
+    end_opened = sym same ∙ rw (drop_of_length-le (forms kind) done, front_at text end is, drop-drop 1 end text)
+
+    pub no_line_feed : (b ≡ line_feed → ⊥) → LineFound text here None old old
+    no_line_feed h = malformed_found text old (in_array_malformed 0 no_values here (rw (end_opened, ne_eqb _ _ h)))
+
+    pub fields_read : b ≡ line_feed → LineFound text here (Some (end + 1)) old values
+    fields_read h = in_array_found text old values (end + 1) here (omega (arith, inside text end is (omega arith))) (rw (end_opened, eq-eqb _ _ h))
 
 -- ---- a line, by the length r of its name where that stands
 

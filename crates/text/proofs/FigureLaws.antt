@@ -3,46 +3,41 @@ use Prim.Native.Nat.{ℕ, suc, ◌+◌, ◌*◌, ◌≤◌, ◌<◌, ◌^◌}
 use native.Mathlib.Nat.{mul-le-mul}
 use native.Mathlib.Numerals.{add-one}
 use native.Mathlib.Omega.{arith}
-use mathlib.Core.Path.{◌≡◌, refl, sym, subst}
+use mathlib.Core.Path.{◌≡◌, refl, sym}
 use mathlib.Core.List.{List, [], ◌∷◌, ◌++◌}
 use lib.Ieee.{Float}
 use lib.ListN.{length, get_or, drop, length-drop, length-append, drop_of_length-le, get_or-append}
 use lib.Seq.{sets, get_or-append_seam}
 use borrow.Author.Tests.{eq-eqb, ne_eqb}
-use denote.Enum.Declared.{tag_of}
 use Rattle.model.specs.declared.LineKind.TheVariants.{Clip, State, Node, Go}
-use Rattle.model.specs.Text.{max_word, front, forms, line_in, words_in, bits_in, Reading, bad, got, prefixed, and_then, times, read_line, from_state, read_state, read_end, read_words, samples_in}
+use Rattle.model.specs.Text.{max_word, front, forms, malformed, line_in, words_in, bits_in, Reading, bad, got, prefixed, and_then, times, from_line, read_line, from_state, read_state, read_end, read_words, samples_in}
 use Rattle.model.specs.Plan.{max_joints, max_clips, max_samples, clip_words, total}
 use Rattle.model.proofs.Laws.Totals.{total_same}
-use Rattle.text.specs.declared.lines.LineEnd.{LineEnd}
+use Rattle.std.specs.Prelude.{Ok, Err}
 use Rattle.text.specs.declared.put.Progress.{Progress}
-use Rattle.text.specs.declared.put.Step.{Step}
-use Rattle.text.specs.declared.put.Step.TheVariants.{Next, Malformed}
+use Rattle.text.specs.declared.put.Malformed.{Malformed}
 use Rattle.text.specs.Figures.{sampled, read_poses, read_motion}
-use Rattle.text.specs.LineFound.{LineFound}
-use Rattle.text.specs.Steps.{InText, behind_line, with_word, LineAt, Put, ReadAs}
-use Rattle.text.specs.contracts.lines.LineEnd.{the_type as end-type}
-use Rattle.text.specs.contracts.put.Step.{the_type as step-type}
+use Rattle.text.specs.Steps.{InText, behind_line, with_word, LineAt, Put, Step, ReadAs}
 use Rattle.text.proofs.Laws.{put_more, put_word, put_behind, follows, goes, stops, moved_nothing}
-use Rattle.text.proofs.LineLaws.{next_of, line_bad, line_read, line_bytes, line_values}
+use Rattle.text.proofs.LineLaws.{next_of, line_read, line_bytes, line_values}
 
 -- ---- the end
 
 module _ (text : List ℕ) (r : Progress) (p : List ℕ) (n : List Float) where
-  pub end_stops : r.at < length text → ReadAs text r p p n n (Malformed (r.line + 1)) (read_end (drop r.at text))
+  pub end_stops : r.at < length text → ReadAs text r p p n n (Err (record { line = r.line + 1 })) (read_end (drop r.at text))
   unfolding ReadAs read_end
   end_stops h = rw (ne_eqb (length (drop r.at text)) 0 (λ e. omega (arith, length-drop r.at text)))
 
-  pub end_steps : InText text r → length text ≤ r.at → ReadAs text r p p n n (Next r) (read_end (drop r.at text))
+  pub end_steps : InText text r → length text ≤ r.at → ReadAs text r p p n n (Ok r) (read_end (drop r.at text))
   unfolding ReadAs read_end
   end_steps i h = rw (eq-eqb (length (drop r.at text)) 0 (omega (arith, length-drop r.at text))) (moved_nothing text r [] p n i (sym (drop_of_length-le text h)))
 
 -- ---- a state: its counts stand in one line of the text, and apart in the plan
 
-pub state_stops : {text old values : List ℕ} (r : Progress) {found : LineEnd} → LineFound text (line_in State (drop r.at text)) found old values
-    → (p₀ p₁ : List ℕ) (n₀ n₁ : List Float) → tag_of end-type found ≡ 1 → ReadAs text r p₀ p₁ n₀ n₁ (Malformed (r.line + 1)) (read_state (drop r.at text))
-unfolding ReadAs read_state from_state
-state_stops r told p₀ p₁ n₀ n₁ t = rw (line_bad State r told t)
+pub state_stops : (text : List ℕ) (r : Progress) (p₀ p₁ : List ℕ) (n₀ n₁ : List Float) (m : Malformed) → m.line ≡ r.line + 1 → line_in State (drop r.at text) ≡ malformed
+    → ReadAs text r p₀ p₁ n₀ n₁ (Err m) (read_state (drop r.at text))
+unfolding ReadAs read_state from_state read_line from_line
+state_stops text r p₀ p₁ n₀ n₁ m e t = rw t e
 
 module _ {text values : List ℕ} {r : Progress} {at : ℕ} (l : LineAt State text values r at) where
   abbrev nodes : ℕ
@@ -73,47 +68,48 @@ module _ {text values : List ℕ} {r : Progress} {at : ℕ} (l : LineAt State te
   unfolding forms
   counts_small = (omega (arith, ((line_values l).bounded 0 (omega arith)).1), omega (arith, ((line_values l).bounded 1 (omega arith)).1))
 
-  -- behind the nodes
-  module _ (f : Progress) (begun : f ≡ first) (p₁ p₂ : List ℕ) (n₀ n₁ : List Float) (step : Step) (a : ReadAs text f p₁ p₂ n₀ n₁ step (times nodes (read_line Node) (drop f.at text))) where
-    nodes_read : ReadAs text first p₁ p₂ n₀ n₁ step (times nodes (read_line Node) (drop at text))
-    nodes_read = rw begun at a
+  -- behind the nodes, which begin at f
+  module _ (h f : Progress) (line : h ≡ behind_line r at) (begun : f ≡ with_word h) (p₁ p₂ : List ℕ) (n₀ n₁ : List Float) where
+    nodes_read : (step : Step) → ReadAs text f p₁ p₂ n₀ n₁ step (times nodes (read_line Node) (drop f.at text))
+        → ReadAs text first p₁ p₂ n₀ n₁ step (times nodes (read_line Node) (drop at text))
+    nodes_read step a = rw (begun, line) at a
 
     -- the line had room for the count of transitions too
-    pub behind_here : (q : Progress) → step ≡ Next q → InText text (with_word q)
+    pub behind_here : (q : Progress) → ReadAs text f p₁ p₂ n₀ n₁ (Ok q) (times nodes (read_line Node) (drop f.at text)) → InText text (with_word q)
     unfolding ReadAs
-    behind_here q e = to (times nodes (read_line Node) (drop at text)) (subst (λ (s : Step). ReadAs text first p₁ p₂ n₀ n₁ s (times nodes (read_line Node) (drop at text))) e nodes_read)
+    behind_here q a = to (times nodes (read_line Node) (drop at text)) (nodes_read (Ok q) a)
       where
-        to : (x : Reading) → ReadAs text first p₁ p₂ n₀ n₁ (Next q) x → InText text (with_word q)
+        to : (x : Reading) → ReadAs text first p₁ p₂ n₀ n₁ (Ok q) x → InText text (with_word q)
         to (got ws bs rest n) m = let b = bytes in record { spent = omega (arith, l.here.spent, m.put.words, m.put.numbers); inside = m.inside }
         to (bad n) m = absurd m
 
-    module _ (h : Progress) (line : h ≡ behind_line r at) (p₀ : List ℕ) (put : p₁ ≡ sets p₀ h.words (nodes ∷ [])) where
+    module _ (p₀ : List ℕ) (put : p₁ ≡ sets p₀ h.words (nodes ∷ [])) where
       counted : Put (nodes ∷ []) [] r first p₀ p₁ n₀ n₀
       counted = put_behind r first at (put_word nodes (behind_line r at) p₀ p₁ n₀ (rw line at put))
 
-      pub nodes_stop : tag_of step-type step ≡ 1 → ReadAs text r p₀ p₂ n₀ n₁ step (read_state (drop r.at text))
-      nodes_stop t =
+      pub nodes_stop : (m : Malformed) → ReadAs text f p₁ p₂ n₀ n₁ (Err m) (times nodes (read_line Node) (drop f.at text)) → ReadAs text r p₀ p₂ n₀ n₁ (Err m) (read_state (drop r.at text))
+      nodes_stop m a =
           let b = bytes in
-          rw state_read (follows text r first p₀ p₁ p₂ n₀ n₀ n₁ (nodes ∷ []) [] 1 step _
+          rw state_read (follows text r first p₀ p₁ p₂ n₀ n₀ n₁ (nodes ∷ []) [] 1 (Err m) _
           record { left = refl; inside = l.inside; spent = omega arith; line = refl; put = counted }
-          (stops text first p₁ p₂ n₀ n₁ (times nodes (read_line Node) (drop at text)) step nodes_read (λ _. after_nodes) t))
+          (stops text first p₁ p₂ n₀ n₁ m (times nodes (read_line Node) (drop at text)) (λ _. after_nodes) (nodes_read (Err m) a)))
 
-      pub state_steps : (q g : Progress) (p₃ p₄ : List ℕ) (n₂ : List Float) (last : Step) → step ≡ Next q → g ≡ with_word q → p₃ ≡ sets p₂ q.words (transitions ∷ [])
+      pub state_steps : (q g : Progress) (p₃ p₄ : List ℕ) (n₂ : List Float) (last : Step) → ReadAs text f p₁ p₂ n₀ n₁ (Ok q) (times nodes (read_line Node) (drop f.at text))
+          → g ≡ with_word q → p₃ ≡ sets p₂ q.words (transitions ∷ [])
           → ReadAs text g p₃ p₄ n₁ n₂ last (times transitions (read_line Go) (drop g.at text)) → ReadAs text r p₀ p₄ n₀ n₂ last (read_state (drop r.at text))
       unfolding ReadAs prefixed and_then after_nodes
-      state_steps q g p₃ p₄ n₂ last e first-go then b =
-          rw state_read (of (times nodes (read_line Node) (drop at text)) (subst (λ (s : Step). ReadAs text first p₁ p₂ n₀ n₁ s (times nodes (read_line Node) (drop at text))) e nodes_read))
+      state_steps q g p₃ p₄ n₂ last a first-go then b = rw state_read (of (times nodes (read_line Node) (drop at text)) (nodes_read (Ok q) a))
         where
-          of : (x : Reading) → ReadAs text first p₁ p₂ n₀ n₁ (Next q) x → ReadAs text r p₀ p₄ n₀ n₂ last (prefixed (nodes ∷ []) [] 1 (and_then x (λ _. after_nodes)))
+          of : (x : Reading) → ReadAs text first p₁ p₂ n₀ n₁ (Ok q) x → ReadAs text r p₀ p₄ n₀ n₂ last (prefixed (nodes ∷ []) [] 1 (and_then x (λ _. after_nodes)))
           of (bad n) m = absurd m
           of (got ws bs rest n) m = rw m.left (both last (times transitions (read_line Go) (drop q.at text)) (rw first-go at b))
             where
               both : (last : Step) (y : Reading) → ReadAs text (with_word q) p₃ p₄ n₁ n₂ last y
                   → ReadAs text r p₀ p₄ n₀ n₂ last (prefixed (nodes ∷ []) [] 1 (prefixed ws bs n (prefixed (transitions ∷ []) [] 0 y)))
-              both (Next z) (bad k) g = g
-              both (Malformed k) (got vs cs left k') g = g
-              both (Malformed k) (bad k') g = omega arith
-              both (Next z) (got vs cs left k) g =
+              both (Ok z) (bad k) g = g
+              both (Err k) (got vs cs left k') g = g
+              both (Err k) (bad k') g = omega arith
+              both (Ok z) (got vs cs left k) g =
                   let room = bytes in
                   let lw = length-append ws (transitions ∷ vs) in
                   let lb = length-append bs cs in
@@ -145,12 +141,12 @@ module _ {text values : List ℕ} {q : Progress} {at : ℕ} (l : LineAt Clip tex
   few_samples = ((line_values l).bounded 0 (omega arith)).0
 
   pub sampled_next : (r : Progress) (p₀ p₁ : List ℕ) (n₀ n₁ : List Float) (i m : ℕ)
-      → ReadAs text r p₀ p₁ n₀ n₁ (Next q) (times i (read_line Clip) (drop r.at text)) → sampled i m (times i (read_line Clip) (drop r.at text))
+      → ReadAs text r p₀ p₁ n₀ n₁ (Ok q) (times i (read_line Clip) (drop r.at text)) → sampled i m (times i (read_line Clip) (drop r.at text))
       → sampled (i + 1) (m + get_or values 0 0) (times (i + 1) (read_line Clip) (drop r.at text))
   unfolding ReadAs sampled and_then prefixed times forms words_in bits_in
   sampled_next r p₀ p₁ n₀ n₁ i m a b = rw add-one (more (times i (read_line Clip) (drop r.at text)) a b)
     where
-      more : (x : Reading) → ReadAs text r p₀ p₁ n₀ n₁ (Next q) x → sampled i m x → sampled (suc i) (m + get_or values 0 0) (and_then x (λ _. read_line Clip))
+      more : (x : Reading) → ReadAs text r p₀ p₁ n₀ n₁ (Ok q) x → sampled i m x → sampled (suc i) (m + get_or values 0 0) (and_then x (λ _. read_line Clip))
       more (bad n) a b = absurd a
       more (got ws bs rest n) a b =
           let few = few_samples in
@@ -164,35 +160,29 @@ sampled_start s = (refl, refl, omega arith)
 pub sampled_ends : (s : List ℕ) (i count m : ℕ) → sampled i m (times i (read_line Clip) s) → i ≤ count → count ≤ i → sampled count m (times count (read_line Clip) s)
 sampled_ends s i count m a h k = let e : count ≡ i = omega arith in rw e a
 
-pub sampled_bad : (text : List ℕ) (r : Progress) (p₀ p₁ : List ℕ) (n₀ n₁ : List Float) (x : Reading) (step : Step) (count m : ℕ)
-    → tag_of step-type step ≡ 1 → ReadAs text r p₀ p₁ n₀ n₁ step x → sampled count m x
-unfolding ReadAs sampled
-sampled_bad text r p₀ p₁ n₀ n₁ (got ws bs rest n) (Malformed line) count m t a = absurd a
-sampled_bad text r p₀ p₁ n₀ n₁ (got ws bs rest n) (Next q) count m t a = absurd (omega (arith, t))
-sampled_bad text r p₀ p₁ n₀ n₁ (bad n) step count m t a = tt
-
 -- ---- clips, states and poses
 
-pub sampled_sum : (text : List ℕ) (r q : Progress) (p₀ p₁ : List ℕ) (n₀ n₁ : List Float) (x : Reading) (count m : ℕ) (step : Step)
-    → step ≡ Next q → ReadAs text r p₀ p₁ n₀ n₁ step x → sampled count m x → (m ≡ samples_in (read_words x) count) × (m ≤ count * max_samples)
+pub sampled_sum : (text : List ℕ) (r q : Progress) (p₀ p₁ : List ℕ) (n₀ n₁ : List Float) (x : Reading) (count m : ℕ)
+    → ReadAs text r p₀ p₁ n₀ n₁ (Ok q) x → sampled count m x → (m ≡ samples_in (read_words x) count) × (m ≤ count * max_samples)
 unfolding ReadAs sampled read_words
-sampled_sum text r q p₀ p₁ n₀ n₁ (got ws bs rest n) count m step e a b = (b.1, b.2)
-sampled_sum text r q p₀ p₁ n₀ n₁ (bad n) count m step e a b = absurd (subst (λ (s : Step). ReadAs text r p₀ p₁ n₀ n₁ s (bad n)) e a)
+sampled_sum text r q p₀ p₁ n₀ n₁ (got ws bs rest n) count m a b = (b.1, b.2)
+sampled_sum text r q p₀ p₁ n₀ n₁ (bad n) count m a b = absurd a
 
 pub poses_fit : (m joints clips : ℕ) → m ≤ clips * max_samples → clips ≤ max_clips → joints ≤ max_joints → m * joints < 2 ^ 64
 poses_fit m joints clips h k l = let few : m ≤ 65536 = omega arith in omega (arith, mul-le-mul few l)
 
-module _ (text : List ℕ) (joints clips states : ℕ) (r : Progress) (p₀ p₁ : List ℕ) (n₀ n₁ : List Float) (first : Step)
-    (a : ReadAs text r p₀ p₁ n₀ n₁ first (times clips (read_line Clip) (drop r.at text))) where
-  pub clips_stop : tag_of step-type first ≡ 1 → ReadAs text r p₀ p₁ n₀ n₁ first (read_motion joints clips states (drop r.at text))
+module _ (text : List ℕ) (joints clips states : ℕ) (r : Progress) (p₀ p₁ : List ℕ) (n₀ n₁ : List Float) where
+  pub clips_stop : (m : Malformed) → ReadAs text r p₀ p₁ n₀ n₁ (Err m) (times clips (read_line Clip) (drop r.at text))
+      → ReadAs text r p₀ p₁ n₀ n₁ (Err m) (read_motion joints clips states (drop r.at text))
   unfolding read_motion
-  clips_stop t = stops text r p₀ p₁ n₀ n₁ (times clips (read_line Clip) (drop r.at text)) first a _ t
+  clips_stop m a = stops text r p₀ p₁ n₀ n₁ m (times clips (read_line Clip) (drop r.at text)) _ a
 
   -- behind m samples come the states and m poses of each joint
-  pub clips_then : (q : Progress) (m : ℕ) (p₂ : List ℕ) (n₂ : List Float) (step : Step) → first ≡ Next q → sampled clips m (times clips (read_line Clip) (drop r.at text))
+  pub clips_then : (q : Progress) (m : ℕ) (p₂ : List ℕ) (n₂ : List Float) (step : Step) → ReadAs text r p₀ p₁ n₀ n₁ (Ok q) (times clips (read_line Clip) (drop r.at text))
+      → sampled clips m (times clips (read_line Clip) (drop r.at text))
       → ReadAs text q p₁ p₂ n₁ n₂ step (and_then (times states read_state (drop q.at text)) (λ _. read_poses (m * joints)))
       → ReadAs text r p₀ p₂ n₀ n₂ step (read_motion joints clips states (drop r.at text))
   unfolding read_motion
-  clips_then q m p₂ n₂ step e s b =
-      let sum = (sampled_sum text r q p₀ p₁ n₀ n₁ (times clips (read_line Clip) (drop r.at text)) clips m first e a s).0 in
-      goes text r q p₀ p₁ p₂ n₀ n₁ n₂ (times clips (read_line Clip) (drop r.at text)) _ first step e a (rw sum at b)
+  clips_then q m p₂ n₂ step a s b =
+      let sum = (sampled_sum text r q p₀ p₁ n₀ n₁ (times clips (read_line Clip) (drop r.at text)) clips m a s).0 in
+      goes text r q p₀ p₁ p₂ n₀ n₁ n₂ (times clips (read_line Clip) (drop r.at text)) _ step a (rw sum at b)

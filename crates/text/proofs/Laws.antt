@@ -4,19 +4,17 @@ use Prim.Native.Nat.{ℕ, zero, suc, ◌+◌, ◌-◌, ◌≤◌, ◌<◌}
 use native.Mathlib.Nat.{zero-add, add-zero, add-suc}
 use native.Mathlib.Numerals.{add-one}
 use native.Mathlib.Omega.{arith}
-use mathlib.Core.Path.{◌≡◌, refl, subst, ◌∙◌}
+use mathlib.Core.Path.{◌≡◌, refl, ◌∙◌}
 use mathlib.Core.List.{List, [], ◌∷◌, ◌++◌, map-append}
+use Rattle.std.specs.Prelude.{Ok, Err}
 use lib.Ieee.{Float, binary32, of_bits}
 use lib.ListN.{length, drop, length-append, length-map}
 use lib.Seq.{sets, sets-eq}
-use denote.Enum.Declared.{tag_of}
 use Rattle.model.specs.Text.{Reading, bad, got, prefixed, and_then, times, floats_of, read_words}
 use Rattle.text.specs.declared.put.Progress.{Progress}
-use Rattle.text.specs.declared.put.Step.{Step}
-use Rattle.text.specs.declared.put.Step.TheVariants.{Next, Malformed}
+use Rattle.text.specs.declared.put.Malformed.{Malformed}
 use Rattle.model.proofs.Laws.Stores.{sets-append}
-use Rattle.text.specs.Steps.{InText, behind_line, with_word, Put, Moved, ReadAs}
-use Rattle.text.specs.contracts.put.Step.{the_type as step-type}
+use Rattle.text.specs.Steps.{InText, behind_line, with_word, Put, Moved, Step, ReadAs}
 
 -- ---- what is put
 
@@ -54,24 +52,18 @@ put_behind r q at put = record { words = put.words; numbers = put.numbers; plan 
 
 -- ---- one reading after another
 
-module _ (text : List ℕ) (r : Progress) (p₀ p₁ : List ℕ) (n₀ n₁ : List Float) (x : Reading) (step : Step) (a : ReadAs text r p₀ p₁ n₀ n₁ step x) where
-  -- after a bad line nothing is read
-  pub stops : (next : List ℕ → List ℕ → Reading) → tag_of step-type step ≡ 1 → ReadAs text r p₀ p₁ n₀ n₁ step (and_then x next)
-  unfolding ReadAs and_then
-  stops next t = at x step t a
-    where
-      at : (x : Reading) (step : Step) → tag_of step-type step ≡ 1 → ReadAs text r p₀ p₁ n₀ n₁ step x → ReadAs text r p₀ p₁ n₀ n₁ step (and_then x next)
-      at x (Next z) t a = absurd (omega (arith, t))
-      at (got ws bs rest n) (Malformed l) t a = absurd a
-      at (bad n) (Malformed l) t a = a
+-- after a bad line nothing is read
+pub stops : (text : List ℕ) (r : Progress) (p₀ p₁ : List ℕ) (n₀ n₁ : List Float) (m : Malformed) (x : Reading) (next : List ℕ → List ℕ → Reading)
+    → ReadAs text r p₀ p₁ n₀ n₁ (Err m) x → ReadAs text r p₀ p₁ n₀ n₁ (Err m) (and_then x next)
+unfolding ReadAs and_then
+stops text r p₀ p₁ n₀ n₁ m (got ws bs rest n) next a = absurd a
+stops text r p₀ p₁ n₀ n₁ m (bad n) next a = a
 
-  pub arrives : (q : Progress) → InText text r → step ≡ Next q → InText text q
-  unfolding ReadAs
-  arrives q i e = at x (subst (λ (s : Step). ReadAs text r p₀ p₁ n₀ n₁ s x) e a)
-    where
-      at : (x : Reading) → ReadAs text r p₀ p₁ n₀ n₁ (Next q) x → InText text q
-      at (got ws bs rest n) a = record { spent = omega arith; inside = a.inside }
-      at (bad n) a = absurd a
+pub arrives : (text : List ℕ) (r q : Progress) (p₀ p₁ : List ℕ) (n₀ n₁ : List Float) (x : Reading)
+    → ReadAs text r p₀ p₁ n₀ n₁ (Ok q) x → InText text r → InText text q
+unfolding ReadAs
+arrives text r q p₀ p₁ n₀ n₁ (got ws bs rest n) a i = record { spent = omega arith; inside = a.inside }
+arrives text r q p₀ p₁ n₀ n₁ (bad n) a i = absurd a
 
 -- to stay is a step too
 pub moved_nothing : (text : List ℕ) (r : Progress) (rest p : List ℕ) (n : List Float) → InText text r → rest ≡ drop r.at text → Moved text [] [] rest 0 r r p p n n
@@ -89,26 +81,23 @@ module _ (text : List ℕ) (r q : Progress) (p₀ p₁ p₂ : List ℕ) (n₀ n�
   pub follows : (ws bs : List ℕ) (n : ℕ) (step : Step) (x : Reading) → Moved text ws bs (drop q.at text) n r q p₀ p₁ n₀ n₁
       → ReadAs text q p₁ p₂ n₁ n₂ step x → ReadAs text r p₀ p₂ n₀ n₂ step (prefixed ws bs n x)
   unfolding ReadAs prefixed
-  follows ws bs n (Next z) (got ws' bs' rest m) a b = moved_more ws bs (drop q.at text) ws' bs' rest n m z a b
-  follows ws bs n (Next z) (bad m) a b = b
-  follows ws bs n (Malformed l) (got ws' bs' rest m) a b = b
-  follows ws bs n (Malformed l) (bad m) a b = omega arith
+  follows ws bs n (Ok z) (got ws' bs' rest m) a b = moved_more ws bs (drop q.at text) ws' bs' rest n m z a b
+  follows ws bs n (Ok z) (bad m) a b = b
+  follows ws bs n (Err l) (got ws' bs' rest m) a b = b
+  follows ws bs n (Err l) (bad m) a b = omega arith
 
-  pub goes : (x : Reading) (next : List ℕ → List ℕ → Reading) (first last : Step) → first ≡ Next q → ReadAs text r p₀ p₁ n₀ n₁ first x
+  pub goes : (x : Reading) (next : List ℕ → List ℕ → Reading) (last : Step) → ReadAs text r p₀ p₁ n₀ n₁ (Ok q) x
       → ReadAs text q p₁ p₂ n₁ n₂ last (next (read_words x) (drop q.at text)) → ReadAs text r p₀ p₂ n₀ n₂ last (and_then x next)
   unfolding ReadAs and_then read_words
-  goes x next first last e a b = at x (subst (λ (s : Step). ReadAs text r p₀ p₁ n₀ n₁ s x) e a) b
-    where
-      at : (x : Reading) → ReadAs text r p₀ p₁ n₀ n₁ (Next q) x → ReadAs text q p₁ p₂ n₁ n₂ last (next (read_words x) (drop q.at text)) → ReadAs text r p₀ p₂ n₀ n₂ last (and_then x next)
-      at (got ws bs rest n) a b = follows ws bs n last (next ws rest) (rw a.left at a) (rw a.left b)
-      at (bad n) a b = absurd a
+  goes (got ws bs rest n) next last a b = follows ws bs n last (next ws rest) (rw a.left at a) (rw a.left b)
+  goes (bad n) next last a b = absurd a
 
 -- ---- a loop of readings
 
 -- what such a loop keeps before its reading i of count: the step of the first i, from r to q, in slices of the same lengths
 pub record Through (text : List ℕ) (read : List ℕ → Reading) (count : ℕ) (r : Progress) (p₀ : List ℕ) (n₀ : List Float)
     (q : Progress) (p₁ : List ℕ) (n₁ : List Float) (i : ℕ) : Type 0 where
-  pub so_far : ReadAs text r p₀ p₁ n₀ n₁ (Next q) (times i read (drop r.at text))
+  pub so_far : ReadAs text r p₀ p₁ n₀ n₁ (Ok q) (times i read (drop r.at text))
   pub most : i ≤ count
   pub plan : length p₁ ≡ length p₀
   pub numbers : length n₁ ≡ length n₀
@@ -120,27 +109,29 @@ module _ {text : List ℕ} {read : List ℕ → Reading} {count : ℕ} {r : Prog
 
   module _ {q : Progress} {p₁ : List ℕ} {n₁ : List Float} {i : ℕ} (t : Through text read count r p₀ n₀ q p₁ n₁ i) where
     pub through_here : InText text r → InText text q
-    through_here h = arrives text r p₀ p₁ n₀ n₁ (times i read (drop r.at text)) (Next q) t.so_far q h refl
+    through_here h = arrives text r q p₀ p₁ n₀ n₁ (times i read (drop r.at text)) t.so_far h
 
-    pub through_all : count ≤ i → ReadAs text r p₀ p₁ n₀ n₁ (Next q) (times count read (drop r.at text))
+    pub through_all : count ≤ i → ReadAs text r p₀ p₁ n₀ n₁ (Ok q) (times count read (drop r.at text))
     through_all k = let e : count ≡ i = omega arith in rw e t.so_far
 
-    module _ (less : i < count) (p₂ : List ℕ) (n₂ : List Float) (step : Step) (this : ReadAs text q p₁ p₂ n₁ n₂ step (read (drop q.at text))) where
-      next : ReadAs text r p₀ p₂ n₀ n₂ step (times (suc i) read (drop r.at text))
-      unfolding times
-      next = goes text r q p₀ p₁ p₂ n₀ n₁ n₂ (times i read (drop r.at text)) (λ _. read) (Next q) step refl t.so_far this
+    next : (p₂ : List ℕ) (n₂ : List Float) (step : Step) → ReadAs text q p₁ p₂ n₁ n₂ step (read (drop q.at text))
+        → ReadAs text r p₀ p₂ n₀ n₂ step (times (suc i) read (drop r.at text))
+    unfolding times
+    next p₂ n₂ step this = goes text r q p₀ p₁ p₂ n₀ n₁ n₂ (times i read (drop r.at text)) (λ _. read) step t.so_far this
 
-      pub through_next : {z : Progress} → step ≡ Next z → length p₂ ≡ length p₁ → length n₂ ≡ length n₁ → Through text read count r p₀ n₀ z p₂ n₂ (i + 1)
-      through_next e lp ln = record { so_far = rw (add-one, ← e) next; most = omega arith; plan = lp ∙ t.plan; numbers = ln ∙ t.numbers }
+    pub through_next : i < count → (p₂ : List ℕ) (n₂ : List Float) (z : Progress) → ReadAs text q p₁ p₂ n₁ n₂ (Ok z) (read (drop q.at text))
+        → length p₂ ≡ length p₁ → length n₂ ≡ length n₁ → Through text read count r p₀ n₀ z p₂ n₂ (i + 1)
+    through_next less p₂ n₂ z this lp ln = record { so_far = rw add-one (next p₂ n₂ (Ok z) this); most = omega arith; plan = lp ∙ t.plan; numbers = ln ∙ t.numbers }
 
-      -- a bad line among the first i + 1 readings is the bad line of all
-      pub through_stops : tag_of step-type step ≡ 1 → ReadAs text r p₀ p₂ n₀ n₂ step (times count read (drop r.at text))
-      unfolding times
-      through_stops b = let e : count ≡ suc i + (count - suc i) = omega arith in rw e (more (count - suc i))
-        where
-          more : (k : ℕ) → ReadAs text r p₀ p₂ n₀ n₂ step (times (suc i + k) read (drop r.at text))
-          more zero = rw add-zero next
-          more (suc k) = rw add-suc (stops text r p₀ p₂ n₀ n₂ (times (suc i + k) read (drop r.at text)) step (more k) (λ _. read) b)
+    -- a bad line among the first i + 1 readings is the bad line of all
+    pub through_stops : i < count → (p₂ : List ℕ) (n₂ : List Float) (m : Malformed) → ReadAs text q p₁ p₂ n₁ n₂ (Err m) (read (drop q.at text))
+        → ReadAs text r p₀ p₂ n₀ n₂ (Err m) (times count read (drop r.at text))
+    unfolding times
+    through_stops less p₂ n₂ m this = let e : count ≡ suc i + (count - suc i) = omega arith in rw e (more (count - suc i))
+      where
+        more : (k : ℕ) → ReadAs text r p₀ p₂ n₀ n₂ (Err m) (times (suc i + k) read (drop r.at text))
+        more zero = rw add-zero (next p₂ n₂ (Err m) this)
+        more (suc k) = rw add-suc (stops text r p₀ p₂ n₀ n₂ m (times (suc i + k) read (drop r.at text)) (λ _. read) (more k))
 
 -- with these `search` closes the needs of a loop that keeps `Through`
 pub ruleset through = (rules, through_none, through_here, through_all, through_next, through_stops)

@@ -2,62 +2,56 @@
 use Prim.Native.Nat.{ℕ, zero, suc, ◌+◌, ◌-◌, ◌*◌, ◌≤◌, ◌<◌, ◌^◌}
 use native.Mathlib.Numerals.{add-one}
 use native.Mathlib.Omega.{arith}
-use mathlib.Core.Path.{◌≡◌, refl, sym, ap, subst, ◌∙◌}
+use mathlib.Core.Path.{◌≡◌, refl, sym, ap, ◌∙◌}
 use mathlib.Core.Bool.{Bool, true, false}
 use mathlib.Core.List.{List, [], ◌∷◌, ◌++◌}
 use lib.Ieee.{Float}
 use lib.ListN.{length, get_or, take, drop, length-drop, length-take}
 use lib.Seq.{sets, length-take-le, take-suc, take-length, take-append_seam, get_or-take}
 use lib.Dec.{T}
-use denote.Enum.Declared.{tag_of}
+use Rattle.std.proofs.lemmas.List.{get_or_default}
 use Rattle.model.specs.declared.LineKind.{LineKind}
 use Rattle.model.specs.declared.FieldForm.{FieldForm}
 use Rattle.model.specs.declared.FieldForm.TheVariants.{Decimal, Bits}
-use Rattle.model.specs.Text.{front, max_word, forms, field_count, form_of, Line, malformed, line, line_in, words_in, bits_in, bad, got, from_line, read_line, floats_of}
+use Rattle.model.specs.Text.{front, max_word, forms, field_count, Line, malformed, line, line_in, words_in, bits_in, got, from_line, read_line, floats_of}
 use Rattle.model.specs.Laws.Text.{Bounded}
 use Rattle.model.proofs.Laws.Text.{LineLaw, line_law}
-use Rattle.text.specs.declared.lines.LineEnd.{LineEnd}
-use Rattle.text.specs.declared.lines.LineEnd.TheVariants as end
+use Rattle.std.specs.Prelude.{Option, Some, None, Ok, Err}
 use Rattle.text.specs.declared.put.Progress.{Progress}
-use Rattle.text.specs.declared.put.Step.{Step}
-use Rattle.text.specs.declared.put.Step.TheVariants.{Next, Malformed}
+use Rattle.text.specs.declared.put.Malformed.{Malformed}
 use Rattle.text.specs.LineFound.{max_fields, no_values, found_end, found_values, LineFound}
 use Rattle.text.proofs.FieldLaws.{fields_few, line_rest}
-use Rattle.text.specs.Steps.{InText, behind_line, with_word, with_number, Room, LineValues, LineAt, Put, Stays, ValuesPut, valued, ReadAs}
-use Rattle.text.specs.contracts.lines.LineEnd.{the_type as end-type}
+use Rattle.text.specs.Steps.{InText, behind_line, with_word, with_number, Room, LineValues, LineAt, Put, Stays, ValuesPut, ReadAs}
 use Rattle.text.proofs.Laws.{at_front, put_more, put_nothing, put_word, put_behind}
 
 -- ---- what `line_at` found
 
-abbrev place_of : LineEnd → ℕ
-place_of (end.At n) = n
-place_of end.Malformed = 0
-
-module _ (kind : LineKind) {text old values : List ℕ} (r : Progress) {found : LineEnd} (told : LineFound text (line_in kind (drop r.at text)) found old values) where
-  pub line_at : {at : ℕ} → InText text r → found ≡ end.At at → LineAt kind text values r at
+module _ (kind : LineKind) {text old values : List ℕ} (r : Progress) {found : Option ℕ} (told : LineFound text (line_in kind (drop r.at text)) found old values) where
+  pub line_at : {at : ℕ} → InText text r → found ≡ Some at → LineAt kind text values r at
   unfolding found_end found_values
   line_at {at} here e = of (line_in kind (drop r.at text)) refl (sym e ∙ told.answer) told.values
     where
-      of : (l : Line) → line_in kind (drop r.at text) ≡ l → end.At at ≡ found_end text l → values ≡ found_values l old → LineAt kind text values r at
-      of malformed is a v = absurd (omega (arith, ap (tag_of end-type) a))
+      of : (l : Line) → line_in kind (drop r.at text) ≡ l → Some at ≡ found_end text l → values ≡ found_values l old → LineAt kind text values r at
+      of malformed is a v = cc
       of (line vs rest) is a v =
-          let place : at ≡ length text - length rest = ap place_of a in
+          let place : at ≡ length text - length rest = cc in
           let few : length vs ≤ length no_values = omega (arith, (line_law kind (drop r.at text) vs rest is).count, fields_few kind) in
           let front : take (field_count kind) values ≡ vs =
           rw (v, at_front no_values vs few, ← (line_law kind (drop r.at text) vs rest is).count) (take-append_seam vs _) in
           record { here = here; reading = rw (front, place, ← line_rest kind text r.at is) is; inside = omega (arith, place) }
 
-  pub line_bad : tag_of end-type found ≡ 1 → read_line kind (drop r.at text) ≡ bad 1
-  unfolding found_end read_line from_line
+  pub line_bad : found ≡ None → line_in kind (drop r.at text) ≡ malformed
+  unfolding found_end
   line_bad t = of (line_in kind (drop r.at text)) told.answer
     where
-      of : (l : Line) → found ≡ found_end text l → from_line kind l ≡ bad 1
+      of : (l : Line) → found ≡ found_end text l → l ≡ malformed
       of malformed a = refl
-      of (line vs rest) a = absurd (omega (arith, t, ap (tag_of end-type) a))
+      of (line vs rest) a = cc
 
-  pub line_stops : (p₀ p₁ : List ℕ) (n₀ n₁ : List Float) → tag_of end-type found ≡ 1 → ReadAs text r p₀ p₁ n₀ n₁ (Malformed (r.line + 1)) (read_line kind (drop r.at text))
-  unfolding ReadAs
-  line_stops p₀ p₁ n₀ n₁ t = rw (line_bad t)
+pub line_stops : (kind : LineKind) (text : List ℕ) (r : Progress) (p₀ p₁ : List ℕ) (n₀ n₁ : List Float) (m : Malformed)
+    → m.line ≡ r.line + 1 → line_in kind (drop r.at text) ≡ malformed → ReadAs text r p₀ p₁ n₀ n₁ (Err m) (read_line kind (drop r.at text))
+unfolding ReadAs read_line from_line
+line_stops kind text r p₀ p₁ n₀ n₁ m e t = rw t e
 
 -- ---- values by their forms
 
@@ -135,6 +129,10 @@ module _ {form : FieldForm} (value : ℕ) (e : form ≡ Bits) where
   unfolding words_in bits_in
   number_put f p = rw (e, f) (record { words = omega arith; numbers = refl; plan = refl; floats = p }, (refl, refl))
 
+-- whatever stands past the last form
+pub bounded_at : {kind : LineKind} {values : List ℕ} → LineValues kind values → (k : ℕ) (d : FieldForm) → k < field_count kind → Bounded (get_or (forms kind) k d) (get_or values k 0)
+bounded_at {kind} v k d h = rw (get_or_default (forms kind) k d Bits h) (v.bounded k h)
+
 -- ---- a line's first k values, put
 
 pub record FirstPut (kind : LineKind) (values : List ℕ) (r : Progress) (p₀ : List ℕ) (n₀ : List Float) (q : Progress) (p₁ : List ℕ) (n₁ : List Float) (k : ℕ) : Type 0 where
@@ -155,12 +153,12 @@ module _ {kind : LineKind} {values : List ℕ} {r : Progress} {p₀ : List ℕ} 
         let l = length-take-le k (forms kind) (omega arith) in
         record { words = omega (arith, room.words, f.put.words); numbers = omega (arith, room.numbers, f.put.numbers) }
 
-    pub next_put : k < field_count kind → {form : FieldForm} → form ≡ form_of kind k → (z : Progress) (p₂ : List ℕ) (n₂ : List Float)
-        → ValuesPut (form ∷ []) (get_or values k 0 ∷ []) q z p₁ p₂ n₁ n₂
+    pub next_put : k < field_count kind → (d : FieldForm) (z : Progress) (p₂ : List ℕ) (n₂ : List Float)
+        → ValuesPut (get_or (forms kind) k d ∷ []) (get_or values k 0 ∷ []) q z p₁ p₂ n₁ n₂
         → FirstPut kind values r p₀ n₀ z p₂ n₂ (k + 1)
-    next_put h {form} e z p₂ n₂ (put, still) =
+    next_put h d z p₂ n₂ (put, still) =
         let l = length-take-le k (forms kind) (omega arith) in
-        let more : take (suc k) (forms kind) ≡ take k (forms kind) ++ (form ∷ []) = rw e (take-suc (forms kind) k Bits h) in
+        let more : take (suc k) (forms kind) ≡ take k (forms kind) ++ (get_or (forms kind) k d ∷ []) = take-suc (forms kind) k d h in
         record {
           most = omega arith;
           put = rw (add-one, more, words_more, bits_more, l) (put_more r q z p₀ p₁ p₂ n₀ n₁ n₂ _ _ _ _ f.put put);
@@ -198,7 +196,7 @@ module _ {kind : LineKind} {text values : List ℕ} {r : Progress} {at : ℕ} (l
   line_read = rw (l.reading, words_take, bits_take)
 
   module _ {q : Progress} {p₀ p₁ : List ℕ} {n₀ n₁ : List Float} (put : ValuesPut (forms kind) values (behind_line r at) q p₀ p₁ n₀ n₁) where
-    pub line_steps : ReadAs text r p₀ p₁ n₀ n₁ (Next q) (read_line kind (drop r.at text))
+    pub line_steps : ReadAs text r p₀ p₁ n₀ n₁ (Ok q) (read_line kind (drop r.at text))
     unfolding ReadAs
     line_steps =
         let bytes = line_bytes in
@@ -209,12 +207,3 @@ module _ {kind : LineKind} {text values : List ℕ} {r : Progress} {at : ℕ} (l
           line = put.1.1;
           put = put_behind r q at put.0;
         }
-
-    pub line_valued : valued kind text values r (Next q)
-    unfolding valued
-    line_valued = rw put.1.0 l
-
--- behind a step that went on there is a line
-pub valued_next : (kind : LineKind) (text values : List ℕ) (r q : Progress) (step : Step) → valued kind text values r step → step ≡ Next q → LineAt kind text values r q.at
-unfolding valued
-valued_next kind text values r q step v e = subst (λ (s : Step). valued kind text values r s) e v

@@ -2,7 +2,7 @@
 use Prim.Native.Nat.{ℕ, ◌≤◌, ◌<◌}
 use native.Mathlib.Nat.{zero-add}
 use native.Mathlib.Omega.{arith}
-use mathlib.Core.Path.{◌≡◌, refl, subst, ◌∙◌}
+use mathlib.Core.Path.{◌≡◌, refl, ◌∙◌}
 use mathlib.Core.Bool.{false, ◌&&◌}
 use mathlib.Core.List.{List, [], ◌∷◌, ◌++◌}
 use lib.Dec.{leb}
@@ -11,20 +11,21 @@ use lib.ListN.{length, get_or, drop, length-map}
 use borrow.Author.Tests.{le-leb, lt-leb}
 use Rattle.model.specs.declared.LineKind.TheVariants.{Figure, Joint}
 use Rattle.model.specs.declared.Refusal.{Refusal}
-use Rattle.model.specs.declared.TextAnswer.TheVariants as answer
+use Rattle.model.specs.declared.Reason.{Reason}
+use Rattle.model.specs.declared.Reason.TheVariants.{Line, Room}
+use Rattle.std.specs.Prelude.{Ok, Err}
 use Rattle.model.specs.Plan.{max_joints, max_clips, word, joint_count, clip_count, state_count}
 use Rattle.model.specs.Promises.{TextRead}
 use Rattle.model.specs.Text.{forms, Reading, bad, got, and_then, times, read_line, read_figure, text_values, text_verdict, accepted, refused, floats_of, overwritten, read_words, read_floats, when_accepted}
 use Rattle.text.specs.declared.put.Progress.{Progress}
-use Rattle.text.specs.declared.put.Step.{Step}
-use Rattle.text.specs.declared.put.Step.TheVariants.{Next, Malformed}
+use Rattle.text.specs.declared.put.Malformed.{Malformed}
 use Rattle.text.specs.Figures.{begin, read_poses, read_motion, Judged}
-use Rattle.text.specs.Steps.{InText, LineAt, ReadAs}
+use Rattle.text.specs.Steps.{InText, LineAt, Step, ReadAs}
 use Rattle.text.proofs.Laws.{at_front, goes}
 use Rattle.text.proofs.LineLaws.{word_at, line_read, line_values}
 
-abbrev refusal : ℕ → ℕ → Refusal
-refusal number place = record { number = number; place = place }
+abbrev refusal : Reason → ℕ → Refusal
+refusal reason place = record { reason = reason; place = place }
 
 -- ---- the header
 
@@ -40,34 +41,30 @@ module _ {text values : List ℕ} {at : ℕ} (l : LineAt Figure text values begi
   unfolding read_words forms
   count_in k h = rw (line_read l) (word_at (forms Figure) values tt k h)
 
-  module _ (q : Progress) (p₀ p₁ : List ℕ) (n₀ n₁ : List Float) (header : Step) (e : header ≡ Next q) (m : ReadAs text begin p₀ p₁ n₀ n₁ header (read_line Figure text)) where
+  module _ (q : Progress) (p₀ p₁ : List ℕ) (n₀ n₁ : List Float) (m : ReadAs text begin p₀ p₁ n₀ n₁ (Ok q) (read_line Figure text)) where
     pub header_then : (p₂ : List ℕ) (n₂ : List Float) (step : Step)
         → ReadAs text q p₁ p₂ n₁ n₂ step (and_then (times (get_or values 0 0) (read_line Joint) (drop q.at text)) (λ _. read_motion (get_or values 0 0) (get_or values 1 0) (get_or values 3 0)))
         → ReadAs text begin p₀ p₂ n₀ n₂ step (read_figure text)
     unfolding read_figure read_motion read_poses joint_count clip_count state_count word
     header_then p₂ n₂ step b =
-        goes text begin q p₀ p₁ p₂ n₀ n₁ n₂ (read_line Figure text) _ header step e m
+        goes text begin q p₀ p₁ p₂ n₀ n₁ n₂ (read_line Figure text) _ step m
         (rw (count_in 0 (omega arith), count_in 1 (omega arith), count_in 3 (omega arith)) b)
 
 -- ---- the first pass, which judges
 
-pub judged : (text p₀ p₁ : List ℕ) (n₀ n₁ : List Float) (x : Reading) (step : Step) (q : Progress)
-    → ReadAs text begin p₀ p₁ n₀ n₁ step x → step ≡ Next q → Judged q.words q.numbers x
+pub judged : (text p₀ p₁ : List ℕ) (n₀ n₁ : List Float) (q : Progress) (x : Reading) → ReadAs text begin p₀ p₁ n₀ n₁ (Ok q) x → Judged q.words q.numbers x
 unfolding ReadAs
-judged text p₀ p₁ n₀ n₁ x step q a e = of x (subst (λ (s : Step). ReadAs text begin p₀ p₁ n₀ n₁ s x) e a)
-  where
-    of : (x : Reading) → ReadAs text begin p₀ p₁ n₀ n₁ (Next q) x → Judged q.words q.numbers x
-    of (bad n) m = absurd m
-    of (got ws bs rest n) m =
-        record {
-          plan = ws;
-          bits = bs;
-          rest = rest;
-          lines = n;
-          reading = refl;
-          plan_length = m.put.words ∙ zero-add (length ws);
-          numbers_length = m.put.numbers ∙ zero-add (length bs);
-        }
+judged text p₀ p₁ n₀ n₁ q (bad n) m = absurd m
+judged text p₀ p₁ n₀ n₁ q (got ws bs rest n) m =
+    record {
+      plan = ws;
+      bits = bs;
+      rest = rest;
+      lines = n;
+      reading = refl;
+      plan_length = m.put.words ∙ zero-add (length ws);
+      numbers_length = m.put.numbers ∙ zero-add (length bs);
+    }
 
 empty : {A : Type 0} (xs : List A) → length xs ≡ 0 → xs ≡ []
 empty [] e = refl
@@ -77,38 +74,38 @@ empty (x ∷ xs) e = absurd (omega arith)
 pub lent_nothing : {A : Type 0} (xs ys : List A) → length xs ≡ 0 → xs ++ ys ≡ ys
 lent_nothing xs ys e = rw (empty xs e)
 
-pub refused_11 : (text P : List ℕ) (N : List Float) (p₀ p₁ : List ℕ) (n₀ n₁ : List Float) (step : Step) (line : ℕ)
-    → ReadAs text begin p₀ p₁ n₀ n₁ step (read_figure text) → step ≡ Malformed line → TextRead text P P N N (answer.Refused (refusal 11 line))
+pub refused_11 : (text P : List ℕ) (N : List Float) (p₀ p₁ : List ℕ) (n₀ n₁ : List Float) (m : Malformed)
+    → ReadAs text begin p₀ p₁ n₀ n₁ (Err m) (read_figure text) → TextRead text P P N N (Err (refusal Line m.line))
 unfolding ReadAs text_values text_verdict when_accepted
-refused_11 text P N p₀ p₁ n₀ n₁ step line a e = of (read_figure text) refl (subst (λ (s : Step). ReadAs text begin p₀ p₁ n₀ n₁ s (read_figure text)) e a)
+refused_11 text P N p₀ p₁ n₀ n₁ m a = of (read_figure text) refl a
   where
-    of : (x : Reading) → read_figure text ≡ x → ReadAs text begin p₀ p₁ n₀ n₁ (Malformed line) x → TextRead text P P N N (answer.Refused (refusal 11 line))
-    of (got ws bs rest n) r m = absurd m
-    of (bad n) r m = let l : line ≡ n = omega arith in record { answer = rw (r, l); plan = rw r; numbers = rw r }
+    of : (x : Reading) → read_figure text ≡ x → ReadAs text begin p₀ p₁ n₀ n₁ (Err m) x → TextRead text P P N N (Err (refusal Line m.line))
+    of (got ws bs rest n) r a = absurd a
+    of (bad n) r a = let l : m.line ≡ n = omega arith in record { answer = rw (r, l); plan = rw r; numbers = rw r }
 
 -- ---- the second pass, where there is room
 
 module _ (text P : List ℕ) (N : List Float) (words count : ℕ) (j : Judged words count (read_figure text)) where
-  refused_12 : leb words (length P) && leb count (length N) ≡ false → TextRead text P P N N (answer.Refused (refusal 12 0))
+  refused_12 : leb words (length P) && leb count (length N) ≡ false → TextRead text P P N N (Err (refusal Room 0))
   unfolding text_values text_verdict when_accepted
   refused_12 e =
       let v : text_verdict (read_figure text) (length P) (length N) ≡ refused 12 0 0 = rw (j.reading, ← j.plan_length, ← j.numbers_length, e) in
       record { answer = rw v; plan = rw v; numbers = rw v }
 
-  pub plan_short : length P < words → TextRead text P P N N (answer.Refused (refusal 12 0))
+  pub plan_short : length P < words → TextRead text P P N N (Err (refusal Room 0))
   plan_short h = refused_12 (rw (lt-leb words (length P) h))
 
-  pub numbers_short : words ≤ length P → length N < count → TextRead text P P N N (answer.Refused (refusal 12 0))
+  pub numbers_short : words ≤ length P → length N < count → TextRead text P P N N (Err (refusal Room 0))
   numbers_short h k = refused_12 (rw (le-leb words (length P) h, lt-leb count (length N) k))
 
   pub accepts : (P' : List ℕ) (N' : List Float) (step : Step) → words ≤ length P → count ≤ length N
-      → ReadAs text begin P P' N N' step (read_figure text) → TextRead text P P' N N' (answer.Accepted words count)
+      → ReadAs text begin P P' N N' step (read_figure text) → TextRead text P P' N N' (Ok (record { words = words; numbers = count }))
   unfolding ReadAs text_values text_verdict when_accepted overwritten read_words read_floats
   accepts P' N' step h k a = of step (rw j.reading at a)
     where
-      of : (step : Step) → ReadAs text begin P P' N N' step (got j.plan j.bits j.rest j.lines) → TextRead text P P' N N' (answer.Accepted words count)
-      of (Malformed line) m = absurd m
-      of (Next q) m =
+      of : (step : Step) → ReadAs text begin P P' N N' step (got j.plan j.bits j.rest j.lines) → TextRead text P P' N N' (Ok (record { words = words; numbers = count }))
+      of (Err b) m = absurd m
+      of (Ok q) m =
           let v : text_verdict (read_figure text) (length P) (length N) ≡ accepted words count =
           rw (j.reading, ← j.plan_length, ← j.numbers_length, le-leb words (length P) h, le-leb count (length N) k) in
           let l = length-map j.bits (of_bits binary32) in

@@ -1,13 +1,12 @@
 -- What the reader's functions say of a text: of a row of lines. Definitions only.
-use Rattle.std.specs.Prelude.{ℕ, ◌+◌, ◌*◌, ◌≤◌, ◌<◌, ◌^◌, ◌≡◌, List, length, get_or, take, drop, Float}
+use Rattle.std.specs.Prelude.{ℕ, ◌+◌, ◌*◌, ◌≤◌, ◌<◌, ◌^◌, ◌≡◌, List, length, get_or, take, drop, Float, Result, Ok, Err}
 use Rattle.std.proofs.lemmas.List.Edits.{sets}
 use Rattle.model.specs.declared.LineKind.{LineKind}
 use Rattle.model.specs.declared.FieldForm.{FieldForm}
-use Rattle.model.specs.Text.{field_count, form_of, words_in, bits_in, line, line_in, Reading, bad, got, floats_of}
+use Rattle.model.specs.Text.{field_count, form_of, words_in, bits_in, malformed, line, line_in, Reading, bad, got, floats_of}
 use Rattle.model.specs.Laws.Text.{Bounded}
 use Rattle.text.specs.declared.put.Progress.{Progress}
-use Rattle.text.specs.declared.put.Step.{Step}
-use Rattle.text.specs.declared.put.Step.TheVariants as step
+use Rattle.text.specs.declared.put.Malformed.{Malformed}
 
 -- a place in the text that lies behind all that was read before it
 pub record InText (text : List ℕ) (r : Progress) : Type 0 where
@@ -67,18 +66,22 @@ pub record Moved (text ws bs rest : List ℕ) (lines : ℕ) (r q : Progress)
   pub line : q.line ≡ r.line + lines
   pub put : Put ws bs r q plan_old plan_new numbers_old numbers_new
 
--- behind a line that was read, its values
-unfoldable pub valued : LineKind → List ℕ → List ℕ → Progress → Step → Type 0
-valued kind text values r (step.Next q) = LineAt kind text values r q.at
-valued kind text values r (step.Malformed m) = Unit {0}
+-- how far a step came, or the line that stopped it
+abbrev pub Step : Type 0
+Step = Result Progress Malformed
+
+-- what is found of a line at r, with the values in front of an array: the place behind it, with nothing put yet
+abbrev pub LineRead : LineKind → List ℕ → List ℕ → Progress → Step → Type 0
+LineRead kind text values r (Ok q) = (q ≡ behind_line r q.at) × LineAt kind text values r q.at
+LineRead kind text values r (Err m) = (m.line ≡ r.line + 1) × (line_in kind (drop r.at text) ≡ malformed)
 
 -- what a step makes of a reading. After a bad line the slices are not spoken of
 unfoldable pub ReadAs : List ℕ → Progress → List ℕ → List ℕ → List Float → List Float → Step → Reading → Type 0
-ReadAs text r plan_old plan_new numbers_old numbers_new (step.Next q) (got ws bs rest n) =
+ReadAs text r plan_old plan_new numbers_old numbers_new (Ok q) (got ws bs rest n) =
     Moved text ws bs rest n r q plan_old plan_new numbers_old numbers_new
-ReadAs text r plan_old plan_new numbers_old numbers_new (step.Next q) (bad n) = ⊥
-ReadAs text r plan_old plan_new numbers_old numbers_new (step.Malformed m) (got ws bs rest n) = ⊥
-ReadAs text r plan_old plan_new numbers_old numbers_new (step.Malformed m) (bad n) = m ≡ r.line + n
+ReadAs text r plan_old plan_new numbers_old numbers_new (Ok q) (bad n) = ⊥
+ReadAs text r plan_old plan_new numbers_old numbers_new (Err m) (got ws bs rest n) = ⊥
+ReadAs text r plan_old plan_new numbers_old numbers_new (Err m) (bad n) = m.line ≡ r.line + n
 
 -- the same of what a definition reads where r is in the text
 abbrev pub ReadBy : (List ℕ → Reading) → List ℕ → Progress → Step → List ℕ → List ℕ → List Float → List Float → Type 0

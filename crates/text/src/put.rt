@@ -1,19 +1,20 @@
 // One line, or many of a kind, into the slices. A place past a slice's end is not written, so that slices of no length
 // serve to judge a text.
-ghost use Rattle.std.specs.Prelude.{◌≡◌, [], ◌∷◌, ◌+◌, ◌<◌, ◌≤◌, ◌^◌};
+ghost use Rattle.std.specs.Prelude.{◌≡◌, [], ◌∷◌, ◌+◌, ◌<◌, ◌≤◌, ◌^◌, IfOk};
 ghost use Rattle.std.proofs.lemmas.List.Edits.{sets};
 ghost use Rattle.model.specs.Text.{max_word, forms, read_line, times, floats_of};
 ghost use Rattle.model.specs.Laws.Text.{Bounded};
 ghost use Rattle.text.specs.LineFound.{max_fields};
-ghost use Rattle.text.specs.Steps.{InText, with_word, with_number, behind_line, Room};
-ghost use Rattle.text.specs.Steps.{ValuesPut, LineValues, valued, ReadBy};
+ghost use Rattle.text.specs.Steps.{InText, LineAt, with_word, with_number, Room};
+ghost use Rattle.text.specs.Steps.{ValuesPut, LineValues, LineRead, ReadBy};
+ghost use Rattle.model.specs.declared.Reason.TheVariants as reason;
 
-use crate::lines::{LineEnd, MAX_FIELDS, field_count, field_form, line_at};
+use crate::lines::{MAX_FIELDS, forms, line_at};
 use float::f32_from_bits;
-use model::{FieldForm, LineKind};
+use model::{FieldForm, LineKind, Reason, Refusal};
 
 // The place in the text, and how many lines, words and numbers stand before it.
-#[derive(Drop)]
+#[derive(Clone, Copy)]
 pub struct Progress {
     pub at: usize,
     pub line: usize,
@@ -21,10 +22,18 @@ pub struct Progress {
     pub numbers: usize,
 }
 
-#[derive(Drop)]
-pub enum Step {
-    Next(Progress),
-    Malformed { line: usize },
+// A line that is not what it has to be, counted from 1.
+#[derive(Clone, Copy)]
+pub struct Malformed {
+    pub line: usize,
+}
+
+impl From<Malformed> for Refusal {
+    ghost from_gives = { λ m r. r ≡ record { reason = reason.Line; place = m.line } };
+
+    fn from(malformed: Malformed) -> Refusal {
+        Reason::Line.at(malformed.line)
+    }
 }
 
 // ---- values, each behind those that were put before
@@ -39,10 +48,8 @@ pub fn put_word(plan: &mut [u16], from: Progress, value: usize) -> Progress
         plan[at] = value as u16;
     }
     Progress {
-        at: from.at,
-        line: from.line,
         words: at + 1,
-        numbers: from.numbers,
+        ..from
     }
 }
 
@@ -56,10 +63,8 @@ fn put_number(numbers: &mut [f32], from: Progress, bits: usize) -> Progress
         numbers[at] = f32_from_bits(bits as u32);
     }
     Progress {
-        at: from.at,
-        line: from.line,
-        words: from.words,
         numbers: at + 1,
+        ..from
     }
 }
 
@@ -76,7 +81,7 @@ fn put_value(
         plan.old plan.new numbers.old numbers.new }
 {
     match form {
-        FieldForm::Decimal { limit } => put_word(plan, from, value),
+        FieldForm::Decimal { limit: _ } => put_word(plan, from, value),
         FieldForm::Bits => put_number(numbers, from, value),
     }
 }
@@ -93,29 +98,28 @@ fn put_line(
     ensures { ValuesPut (forms kind) values.now from result
         plan.old plan.new numbers.old numbers.new }
 {
-    let count = field_count(kind);
     let mut progress = from;
-    let mut k = 0;
-    while k < count {
-        progress = put_value(field_form(kind, k), values[k], progress, plan, numbers);
-        k += 1;
+    for (k, form) in forms(kind).iter().enumerate() {
+        progress = put_value(*form, values[k], progress, plan, numbers);
     }
     progress
 }
 
 // ---- lines
 
-// Behind a line that ends at `end`, with nothing put yet.
-pub fn behind(from: Progress, end: usize) -> Progress
-    requires { from.line + 1 < 2 ^ 64 }
-    ensures { result ≡ behind_line from end }
+// Behind a line of a kind, with nothing put yet; its values stay in `values`.
+pub fn behind_line(
+    text: &[u8],
+    kind: LineKind,
+    from: Progress,
+    values: &mut [usize; MAX_FIELDS],
+) -> Result<Progress, Malformed>
+    requires { InText text.now from }
+    ensures { LineRead kind text.now values.new from result }
 {
-    Progress {
-        at: end,
-        line: from.line + 1,
-        words: from.words,
-        numbers: from.numbers,
-    }
+    let line = from.line + 1;
+    let at = line_at(text, from.at, kind, values).ok_or(Malformed { line })?;
+    Ok(Progress { at, line, ..from })
 }
 
 // One line; its values stay in `values`.
@@ -126,22 +130,18 @@ pub fn read_line(
     values: &mut [usize; MAX_FIELDS],
     plan: &mut [u16],
     numbers: &mut [f32],
-) -> Step
+) -> Result<Progress, Malformed>
     requires { InText text.now from }
     ensures read_by { ReadBy (read_line kind) text.now from result
         plan.old plan.new numbers.old numbers.new }
-    ensures valued { valued kind text.now values.new from result }
+    ensures valued { IfOk result (λ q. LineAt kind text.now values.new from q.at) }
 {
-    let found = line_at(text, from.at, kind, values);
-    let LineEnd::At(end) = found else {
-        return Step::Malformed {
-            line: from.line + 1,
-        };
-    };
-    Step::Next(put_line(kind, values, behind(from, end), plan, numbers))
+    let behind = behind_line(text, kind, from, values)?;
+    Ok(put_line(kind, values, behind, plan, numbers))
 }
 
 // `count` lines of one kind.
+#[tactic(auto, using(crate::proofs::Laws::through))]
 pub fn read_lines(
     text: &[u8],
     kind: LineKind,
@@ -149,21 +149,15 @@ pub fn read_lines(
     from: Progress,
     plan: &mut [u16],
     numbers: &mut [f32],
-) -> Step
+) -> Result<Progress, Malformed>
     requires { InText text.now from }
     ensures { ReadBy (times count (read_line kind)) text.now from result
         plan.old plan.new numbers.old numbers.new }
 {
-    let mut values = [0usize; MAX_FIELDS];
+    let mut values = [0; MAX_FIELDS];
     let mut progress = from;
-    let mut i = 0;
-    while i < count {
-        let step = read_line(text, kind, progress, &mut values, plan, numbers);
-        let Step::Next(next) = step else {
-            return step;
-        };
-        progress = next;
-        i += 1;
+    for _ in 0..count {
+        progress = read_line(text, kind, progress, &mut values, plan, numbers)?;
     }
-    Step::Next(progress)
+    Ok(progress)
 }

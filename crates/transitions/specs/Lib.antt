@@ -1,2 +1,3 @@
--- What step 1 makes of a player
+-- How a number stands for an operator, and what step 1 makes of a player
+pub mod Operators
 pub mod Step

@@ -3,7 +3,6 @@ use mathlib.Core.Path.{◌≡◌, sym, ap, ◌∙◌}
 use Prim.Native.Nat.{ℕ, suc, ◌%◌}
 use native.Mathlib.Nat.{mod-lt, suc-mod}
 use denote.Floats.{passes}
-use borrow.Author.Rules.{rules}
 use Rattle.model.specs.Clips.{first_index, second_index, factor}
 use Rattle.animation.specs.Sampling.{position_in}
 use Rattle.animation.proofs.Laws.{ceiling_after}

@@ -1,5 +1,4 @@
 -- `animation::sampled_position` meets its contract: it is the definition, by the ending first. Assumes nothing.
-use borrow.Author.Rules.{rules}
 use Prim.Native.Nat.{ℕ, ◌^◌, ◌≤◌}
 use native.Mathlib.Omega.{arith}
 use lib.Dec.{T, le→leb}

@@ -1,26 +1,24 @@
 -- `calls::frame_line` meets its contract. Assumes nothing.
-use mathlib.Core.Path.{refl, ap, ◌∙◌}
+use Rattle.std.proofs.Common.{ℕ, List, Float}
+use Rattle.model.specs.declared.FrameKind.{FrameKind}
 use Rattle.model.specs.Run as Run
-use Rattle.calls.specs.CallText.{line, frame_line}
-use Rattle.calls.specs.Read.{line_of}
-use Rattle.calls.proofs.LineLaws.{none_read, same_read, without, with_value, ends}
+use Rattle.calls.specs.CallText.{CallLine, decimal_field, behind_field, line_end, frame_line}
+use Rattle.calls.specs.Read.{call_of}
+use Rattle.calls.proofs.LineLaws.{none_read, without, with_value}
 use Rattle.calls.proofs.frame_line.Goals as goal
 
-pub returns-in_default : goal.returns-in_default
-unfolding frame_line
-returns-in_default c = none_read c.malformed.ensures (without _ _ refl c.wide_behind-ext.ensures c.in_default.is)
+-- what follows behind ext
+abbrev behind_ext : FrameKind → Float → List ℕ → CallLine
+behind_ext kind ext s = behind_field (decimal_field s) (λ n. line_end (Run.Frame kind ext n))
 
-pub returns-in_default-count : goal.returns-in_default-count
+pub returns-in_err-ext : goal.returns-in_err-ext
 unfolding frame_line
-returns-in_default-count c =
-    let ext = with_value _ _ refl c.wide_behind-ext.ensures c.in-Value.is in
-    none_read c.malformed-in_default-count.ensures (without _ _ ext c.decimal_behind-count.ensures c.in_default-count.is)
+returns-in_err-ext c = none_read c.from_residual.ensures (without _ c.in_err-ext.ensures)
+
+pub returns-in_err-length : goal.returns-in_err-length
+unfolding frame_line
+returns-in_err-length c = with_value (behind_ext c.args.kind) c.in_ok-ext.ensures (none_read c.from_residual-in_err-length.ensures (without _ c.in_err-length.ensures))
 
 pub returns : goal.returns
-unfolding frame_line line_of
-returns c =
-    let kind = c.args.kind in
-    let ext = with_value _ _ refl c.wide_behind-ext.ensures c.in-Value.is in
-    same_read c.line_end.ensures
-    (ends _ (λ rest. ap (λ e. line (Run.Frame kind e c.in-Value-count.length) rest) c.f64_from_bits.ensures) _
-    ∙ with_value _ _ ext c.decimal_behind-count.ensures c.in-Value-count.is)
+unfolding frame_line call_of
+returns c = with_value (behind_ext c.args.kind) c.in_ok-ext.ensures (with_value (λ n. line_end (Run.Frame c.args.kind c.in_ok-ext.ext n)) c.in_ok-length.ensures c.ends.ensures)

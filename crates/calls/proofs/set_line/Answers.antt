@@ -1,29 +1,21 @@
 -- `calls::set_line` meets its contract. Assumes nothing.
-use native.Mathlib.Omega.{arith}
-use mathlib.Core.Path.{refl, ap, ◌∙◌}
 use Rattle.model.specs.Run as Run
-use Rattle.calls.specs.CallText.{line, set_line}
-use Rattle.calls.specs.Read.{line_of}
-use Rattle.calls.proofs.LineLaws.{none_read, same_read, without, with_value, ends, bits_fit}
+use Rattle.calls.specs.CallText.{line_end, set_line}
+use Rattle.calls.specs.Read.{call_of}
+use Rattle.calls.proofs.LineLaws.{none_read, without, with_value}
 use Rattle.calls.proofs.set_line.Goals as goal
 
-pub returns-in_default : goal.returns-in_default
+pub returns-in_err-parameter : goal.returns-in_err-parameter
 unfolding set_line
-returns-in_default c = none_read c.malformed.ensures (without _ _ refl c.decimal_behind-number.ensures c.in_default.is)
+returns-in_err-parameter c = none_read c.from_residual.ensures (without _ c.in_err-parameter.ensures)
 
-pub returns-in_default-bits : goal.returns-in_default-bits
+pub returns-in_err-value : goal.returns-in_err-value
 unfolding set_line
-returns-in_default-bits c =
-    let number = with_value _ _ refl c.decimal_behind-number.ensures c.in-Value.is in
-    none_read c.malformed-in_default-bits.ensures (without _ _ number c.bits_behind-bits.ensures c.in_default-bits.is)
-
-pub overflow_cast-value : goal.overflow_cast-value
-overflow_cast-value c = omega (arith, bits_fit _ _ c.bits_behind-bits.ensures c.in-Value-bits.is)
+returns-in_err-value c =
+    with_value _ c.in_ok-parameter.ensures (none_read c.from_residual-in_err-value.ensures (without _ c.in_err-value.ensures))
 
 pub returns : goal.returns
-unfolding set_line line_of
+unfolding set_line call_of
 returns c =
-    let number = with_value _ _ refl c.decimal_behind-number.ensures c.in-Value.is in
-    same_read c.line_end.ensures
-    (ends _ (λ rest. ap (λ x. line (Run.Set c.in-Value.parameter x) rest) c.f32_from_bits.ensures) _
-    ∙ with_value _ _ number c.bits_behind-bits.ensures c.in-Value-bits.is)
+    with_value _ c.in_ok-parameter.ensures
+    (with_value (λ x. line_end (Run.Set c.in_ok-parameter.parameter x)) c.in_ok-value.ensures c.ends.ensures)

@@ -11,4 +11,4 @@ use Rattle.controller.proofs.blank.Goals as goal
 
 pub returns : goal.returns
 unfolding blank of_bits
-returns c = ap (λ (i : List Float). record { clock = 0f; speed = 1f; state = 0; transition = Idle; parameters = replicate max_parameters 0f; instances = i }) c.blank_instances-instances.ensures
+returns c = ap (λ (i : List Float). record { clock = 0f; speed = 1f; state = 0; transition = Idle; parameters = replicate max_parameters 0f; instances = i }) c.blank_instances.ensures

@@ -9,12 +9,12 @@ use Rattle.controller.proofs.blank_instances.Goals as goal
 
 pub loop-n-init : goal.loop-n-init
 unfolding blank_instances
-loop-n-init c = (omega arith, refl)
+loop-n-init c = refl
 
 pub loop-n-preserved : goal.loop-n-preserved
-loop-n-preserved c = (omega (arith, c.loop-n-test.true), blank_next _ _ c.loop-n-test.true c.loop-n.invariant.1)
+loop-n-preserved c = blank_next _ _ c.loop-n-test.true c.loop-n.invariant
 
 pub returns : goal.returns
 returns c =
     let e : c.loop-n.n ≡ max_clip_nodes = omega arith in
-    rw e at c.loop-n.invariant.1 ∙ append-nil (blank_instances max_clip_nodes)
+    rw e at c.loop-n.invariant ∙ append-nil (blank_instances max_clip_nodes)

@@ -4,8 +4,8 @@ use Rattle.model.specs.Answers.{values, require, unless_refused}
 use Rattle.controller.proofs.set.Goals as goal
 
 pub returns-then-n-ge-MAX_PARAMETERS : goal.returns-then-n-ge-MAX_PARAMETERS
-unfolding require unless_refused
-returns-then-n-ge-MAX_PARAMETERS c = let e = le-ltb _ _ c.if-n-ge-MAX_PARAMETERS.true in record { answer = rw e c.refused.ensures; player = rw e }
+unfolding values require unless_refused
+returns-then-n-ge-MAX_PARAMETERS c = let e = le-ltb _ _ c.if-n-ge-MAX_PARAMETERS.true in record { answer = rw (e, c.at.ensures); player = rw e }
 
 pub returns : goal.returns
 unfolding values require unless_refused

@@ -1,23 +1,23 @@
--- `fields::name_at` meets its contract. The loop's invariant: the bytes passed are those of the name, inside the text, so that their place does not overflow.
--- The measure is what is left of the name. Assumes nothing.
-use native.Mathlib.Omega.{arith}
-use Rattle.fields.proofs.Bytes.{none_begun, name_found, name_missing, name_goes}
+use Rattle.std.proofs.Common.{◌≡◌, ◌≤◌, length, drop, drop_of_length-le, sym, ◌∙◌, arith}
+use Rattle.std.proofs.lemmas.Option.{MatchOption-at_none}
+use Rattle.model.specs.Text.{begins}
+use Rattle.fields.proofs.Bytes.{rest_begins, no_name}
 use Rattle.fields.proofs.name_at.Goals as goal
+use Rattle.fields.proofs.name_at.Goals.{After-starts_with}
 
-pub returns-then-byte-name : goal.returns-then-byte-name
-returns-then-byte-name c =
-    record {
-      value = rw (name_missing c.loop-i.invariant c.loop-i-test.true c.byte.ensures c.if-byte-name.true);
-      upper_bound = omega arith;
-    }
+tested : (c : After-starts_with) → begins c.args.name.now (drop c.args.at c.args.text.now) ≡ c.starts_with.result
+tested c =
+    let a = c.args in
+    sym (c.starts_with.ensures.value ∙ rest_begins a.name.now a.text.now c.in-Some.rest.now a.at c.requires c.in-Some.ensures.lookup.0.2)
 
-pub loop-i-preserved : goal.loop-i-preserved
-loop-i-preserved c =
-    let below = c.loop-i-test.true in
-    name_goes c.loop-i.invariant below c.byte.ensures (c.requires _ below) c.if-byte-name.false
+pub returns-in-Some-clause-value : goal.returns-in-Some-clause-value
+returns-in-Some-clause-value c = rw (tested (goal.at.returns-in-Some-clause-value c).After-starts_with, c.if-starts_with.true)
 
-pub returns : goal.returns
-returns c = record { value = rw (name_found c.loop-i.invariant c.loop-i-test.false) (omega arith); upper_bound = omega arith }
+pub returns-in_default-clause-value : goal.returns-in_default-clause-value
+returns-in_default-clause-value c = rw (tested (goal.at.returns-in_default-clause-value c).After-starts_with, c.if-starts_with.false)
 
-pub loop-i-init : goal.loop-i-init
-loop-i-init c = none_begun _ _ _
+pub returns-in_default-2-clause-value : goal.returns-in_default-2-clause-value
+returns-in_default-2-clause-value c =
+    let past = MatchOption-at_none _ _ c.in_default.is c.get.ensures.lookup.0 in
+    let h : length c.args.text.now ≤ c.args.at = omega arith in
+    rw (drop_of_length-le c.args.text.now h) (no_name c.args.name.now c.requires)

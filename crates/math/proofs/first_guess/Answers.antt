@@ -10,6 +10,6 @@ unfolding first_guess
 returns c =
     let bits = c.args.bits in
     elim c.if-bits-lt2147483648.branch [
-      | then-bits-lt2147483648 w ↦ rw (lt-leb 0x8000_0000 bits w.if-bits-lt2147483648.true) (let s = w.shifted-is in let e = c.wrapping_sub_u32.ensures.value in omega (arith, s, e))
-      | else-bits-lt2147483648 w ↦ rw (le-leb 0x8000_0000 bits w.if-bits-lt2147483648.false) (let s = w.shifted-is in let e = c.wrapping_sub_u32.ensures.value in omega (arith, s, e))
+      | then-bits-lt2147483648 w ↦ rw (lt-leb 0x8000_0000 bits w.if-bits-lt2147483648.true) (let s = w.shifted-is in omega (arith, s))
+      | else-bits-lt2147483648 w ↦ rw (le-leb 0x8000_0000 bits w.if-bits-lt2147483648.false) (let s = w.shifted-is in omega (arith, s))
     ]

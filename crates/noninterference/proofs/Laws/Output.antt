@@ -1,12 +1,14 @@
 -- A trace of calls that keep their promises shows what the run by definition shows.
-use Rattle.std.specs.Prelude.{ℕ, ◌≡◌, length, get_or, take, drop, Float}
+use Rattle.std.specs.Prelude.{ℕ, ◌≡◌, length, get_or, take, drop, Float, Result, Ok, Err, IfOk}
 use Rattle.std.proofs.Common.{arith, ◌∙◌}
 use Rattle.std.proofs.Math.Path.{refl, sym, ap, ap₂}
 use mathlib.Core.List.{List, [], ◌∷◌, map}
 use Rattle.model.specs.declared.Player.{Player}
 use Rattle.model.specs.Rotations.{identity_matrix, floats}
 use Rattle.model.specs.declared.FrameKind.{FrameKind}
-use Rattle.model.specs.Answers.{Verdict, accepted, refused, unless_refused}
+use Rattle.model.specs.Answers.{Verdict, accepted, refused, values, unless_refused}
+use Rattle.model.specs.declared.LoopCount.{LoopCount}
+use Rattle.model.specs.declared.Refusal.{Refusal}
 use Rattle.model.specs.Plan.{output_at}
 use Rattle.model.specs.Controller.{blank, fresh, frame_verdict}
 use Rattle.model.specs.Loops.{loops_verdict}
@@ -15,7 +17,7 @@ use Rattle.model.specs.Run.{start_verdict, start_player, frame_matrices, Call, L
 use Rattle.model.proofs.Laws.Answers.{unless_same}
 use Rattle.model.proofs.Laws.Output.{matrix_at_lem, frame_length}
 use Rattle.noninterference.specs.Alike.{Closed}
-use Rattle.noninterference.specs.Trace.{Event, Trace, update, set_speed, set_parameter, frame, ask_loops, Session, calls, output_floats, observed, of_reachable, told_in}
+use Rattle.noninterference.specs.Trace.{Event, Trace, update, set_speed, set_parameter, frame, ask_loops, Session, calls, output_floats, observed, of_reachable, told_in, counts_told}
 use Rattle.noninterference.proofs.Laws.Lists.{map_same}
 
 module _ (plan chosen : List ℕ) (numbers : List Float) (closed : Closed plan chosen) where
@@ -49,11 +51,11 @@ module _ (plan chosen : List ℕ) (numbers : List Float) (closed : Closed plan c
     pub defined : Defined p e
     pub later : Trace plan numbers e.player es
 
-  loops_told : (v : Verdict) (loops rest : ℕ) {l r : ℕ} → l ≡ unless_refused v loops 0 → r ≡ unless_refused v rest 0
-      → ◌≡◌ {A = List ℕ} (l ∷ r ∷ []) (unless_refused v (loops ∷ rest ∷ []) (0 ∷ 0 ∷ []))
-  unfolding unless_refused
-  loops_told accepted loops rest e f = rw (e, f)
-  loops_told (refused number place none) loops rest e f = rw (e, f)
+  loops_told : (r : Result LoopCount Refusal) (v : Verdict) (loops rest : ℕ) → values r ≡ v → IfOk r (λ c. c.loops ≡ loops) → IfOk r (λ c. c.rest ≡ rest)
+      → counts_told r ≡ unless_refused v (loops ∷ rest ∷ []) (0 ∷ 0 ∷ [])
+  unfolding unless_refused values
+  loops_told (Ok c) v loops rest is e f = rw (← is, e, f)
+  loops_told (Err r) v loops rest is e f = rw (← is)
 
   pub first : {p : Player} {e : Event} {es : List Event} → Trace plan numbers p (e ∷ es) → First p e es
   unfolding call_verdict after changed unless_refused output_floats chosen_floats told of_reachable told_in
@@ -65,10 +67,10 @@ module _ (plan chosen : List ℕ) (numbers : List Float) (closed : Closed plan c
         defined = record { answer = c.answer; player = c.player; matrices = λ q. rw c.output (frame_observed (frame_verdict plan numbers p (length old)) p q ext kind old); counts = refl };
         later = t;
       }
-  first (ask_loops {p = p} s n time c t) =
+  first (ask_loops {p = p} {r = r} s n time c t) =
       let v = loops_verdict plan numbers p s n in
       record {
-        defined = record { answer = c.answer; player = sym (unless_same v p); matrices = λ q. refl; counts = ap (of_reachable plan (Loops s n time)) (loops_told v _ _ c.loops c.rest) };
+        defined = record { answer = c.answer; player = sym (unless_same v p); matrices = λ q. refl; counts = ap (of_reachable plan (Loops s n time)) (loops_told r v _ _ c.answer c.loops c.rest) };
         later = t;
       }
 

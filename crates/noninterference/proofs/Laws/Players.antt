@@ -1,7 +1,7 @@
 -- The invariant between two players, that every call keeps it, and that so the two runs by definition agree.
 use Prim.Native.Nat.{ℕ, zero, suc, ◌+◌, ◌≤◌, ◌<◌}
 use Rattle.std.proofs.Common.{arith, ◌∙◌, subst}
-use Rattle.std.specs.Prelude.{◌≡◌, length, get_or, replicate, Float}
+use Rattle.std.specs.Prelude.{◌≡◌, length, get_or, replicate, Float, Option, Some, None}
 use Rattle.std.proofs.Math.Path.{refl, sym, ap}
 use mathlib.Core.List.{List, Memᴰ}
 use Rattle.std.specs.Float.Ieee.{nan}
@@ -10,8 +10,6 @@ use Rattle.model.specs.declared.Matrix4.{Matrix4}
 use Rattle.model.specs.declared.Player.{Player}
 use Rattle.model.specs.declared.Transition.{Transition}
 use Rattle.model.specs.declared.Transition.TheVariants.{Idle, Running}
-use Rattle.model.specs.declared.Winner.{Winner}
-use Rattle.model.specs.declared.Winner.TheVariants.{At, Nothing}
 use Rattle.model.specs.declared.FrameKind.{FrameKind}
 use Rattle.model.specs.Numbers.{0f}
 use Rattle.model.specs.Rotations.{identity_matrix, product, floats}
@@ -86,25 +84,25 @@ module _ (plan chosen : List ℕ) (a b : List Float) (ok : check plan (length a)
       rw (ps.at _ (by_condition r t (omega arith)), value_same plan chosen a b ok closed alike r t (omega arith), first_same r ps n (suc t) (omega arith))
 
   -- a winner is one of the state's transitions
-  abbrev OneOf : ℕ → Winner → Type 0
-  OneOf s Nothing = Unit {0}
-  OneOf s (At t) = t < transition_count plan s
+  abbrev OneOf : ℕ → Option ℕ → Type 0
+  OneOf s None = Unit {0}
+  OneOf s (Some t) = t < transition_count plan s
 
   first_one : (s : ℕ) (l : List Float) (n t : ℕ) → t + n ≤ transition_count plan s → OneOf s (first_passing plan a l s t n)
   unfolding first_passing
   first_one s l zero t h = tt
   first_one s l (suc n) t h =
-      cond_has (OneOf s) (condition_holds plan a l s t) {x = At t} {y = first_passing plan a l s (suc t) n} (omega arith) (first_one s l n (suc t) (omega arith))
+      cond_has (OneOf s) (condition_holds plan a l s t) {x = Some t} {y = first_passing plan a l s (suc t) n} (omega arith) (first_one s l n (suc t) (omega arith))
 
-  started_same : {s : ℕ} (now : Float) → Reachable plan s → (w : Winner) → OneOf s w → started_by plan a now s w ≡ started_by plan b now s w
+  started_same : {s : ℕ} (now : Float) → Reachable plan s → (w : Option ℕ) → OneOf s w → started_by plan a now s w ≡ started_by plan b now s w
   unfolding started_by
-  started_same now r Nothing h = refl
-  started_same now r (At t) h = rw (transition_duration_same plan chosen a b ok closed alike r t h)
+  started_same now r None h = refl
+  started_same now r (Some t) h = rw (transition_duration_same plan chosen a b ok closed alike r t h)
 
-  started_reachable : {s : ℕ} (now : Float) → Reachable plan s → (w : Winner) → OneOf s w → TargetReachable plan (started_by plan a now s w)
+  started_reachable : {s : ℕ} (now : Float) → Reachable plan s → (w : Option ℕ) → OneOf s w → TargetReachable plan (started_by plan a now s w)
   unfolding started_by
-  started_reachable now r Nothing h = tt
-  started_reachable now r (At t) h = target r t h
+  started_reachable now r None h = tt
+  started_reachable now r (Some t) h = target r t h
 
   module _ (p q : Player) (h : LowEquivalent plan p q) (now : Float) where
     step_equivalent : (t : Transition) → TargetReachable plan t → LowEquivalent plan (step_from plan a now p t) (step_from plan b now q t)

@@ -1,36 +1,30 @@
 -- `output_pose::show_blocks` meets its contract. Invariant: the output is the old one with the first joints' matrices written. Assumes nothing.
 use native.Mathlib.Omega.{arith}
-use lib.ListN.{length}
-use Rattle.model.proofs.Laws.Passed.{few_joints}
+use mathlib.Core.Path.{refl}
 use Rattle.layout.proofs.Laws.{joints_found}
-use Rattle.output_pose.proofs.Laws.{through}
+use Rattle.blend_tree.proofs.NodeLaws.{passes}
+use Rattle.output_pose.proofs.Laws.{through_none, through_next, through_all}
 use Rattle.output_pose.proofs.show_blocks.Goals as goal
 
-pub overflow_add-first : goal.overflow_add-first
-overflow_add-first c =
-    let ok = c.requires.0.playable in
-    omega (arith, c.block_length-count.ensures, joints_found _ ok.found, few_joints _ (length c.args.numbers.now) ok.passed)
-
 pub loop-first-init : goal.loop-first-init
-loop-first-init c = search through
-
-pub block_length-count-requires : goal.block_length-count-requires
-block_length-count-requires c = search through
-
-pub shown_poses-requires : goal.shown_poses-requires
-shown_poses-requires c = search through
+loop-first-init c = through_none
 
 pub calculate_global_poses-requires : goal.calculate_global_poses-requires
-calculate_global_poses-requires c = search through
-
-pub loop-first-smaller : goal.loop-first-smaller
-loop-first-smaller c = search through
+calculate_global_poses-requires c =
+    let at = c.args.source.now.state in
+    let found = joints_found _ at.figure.plan.laid.found in
+    (passes at, omega arith, omega (arith, found), omega (arith, found, c.loop-first.invariant.kept, c.requires.1))
 
 pub loop-first-preserved : goal.loop-first-preserved
-loop-first-preserved c = search through
-
-pub shape_of-output : goal.shape_of-output
-shape_of-output c = search through
+loop-first-preserved c =
+    through_next c.loop-first.invariant c.calculate_global_poses.ensures c.shown_poses.ensures (omega arith) (omega arith) (omega arith)
 
 pub returns : goal.returns
-returns c = search through
+returns c = through_all c.loop-first.invariant (joints_found _ c.args.source.now.state.figure.plan.laid.found) (omega arith)
+
+-- the last block
+pub returns-2 : goal.returns-2
+returns-2 c =
+    let at = c.args.source.now.state in
+    through_all {joints = at.figure.plan.layout.joints} (through_next c.loop-first.invariant c.calculate_global_poses.ensures c.shown_poses.ensures (omega arith) refl (omega arith))
+    (joints_found _ at.figure.plan.laid.found) (omega arith)

@@ -4,8 +4,8 @@ use Rattle.plan.proofs.answer_of.Goals as goal
 
 pub returns-in-Ok : goal.returns-in-Ok
 unfolding values
-returns-in-Ok c = rw c.in-Ok.is
+returns-in-Ok g c = rw c.in-Ok.is
 
 pub returns-in-Err : goal.returns-in-Err
 unfolding values
-returns-in-Err c = rw c.in-Err.is
+returns-in-Err g c = rw c.in-Err.is

@@ -1,12 +1,9 @@
--- `printing::glyph` meets its contract: it makes the definition's test. Assumes nothing.
-use borrow.Author.Tests.{lt-ltb, le-ltb}
+-- `printing::glyph` meets its contract: the table is the definition's values. Assumes nothing.
+use Rattle.model.specs.Table.{table_to}
 use Rattle.model.specs.Program.{glyph}
+use Rattle.model.proofs.Laws.Table.{table_at}
 use Rattle.printing.proofs.glyph.Goals as goal
 
-pub returns-then-d-lt10 : goal.returns-then-d-lt10
-unfolding glyph
-returns-then-d-lt10 c = simp (lt-ltb _ _ c.if-d-lt10.true)
-
-pub returns-else-d-lt10 : goal.returns-else-d-lt10
-unfolding glyph
-returns-else-d-lt10 c = simp (le-ltb _ _ c.if-d-lt10.false)
+pub returns : goal.returns
+unfolding glyph table_to
+returns c = table_at (λ done d. glyph d) 16 0 c.args.d c.requires

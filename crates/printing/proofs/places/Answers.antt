@@ -1,21 +1,11 @@
--- `printing::places` meets its contract: each turn takes one digit off; 20 are enough. Assumes nothing.
-use Prim.Native.Nat.{◌+◌, ◌-◌}
-use mathlib.Core.Path.{◌≡◌}
-use native.Mathlib.Omega.{arith}
-use Rattle.printing.proofs.Laws.{one_digit, digit_less}
+-- `printing::places` meets its contract: the greatest power of ten that is no larger says how many digits there are. Assumes nothing.
+use Rattle.std.proofs.Common.{◌≤◌, ◌^◌, arith, sym}
+use Rattle.std.specs.Prelude.{max}
+use Rattle.printing.proofs.Laws.{places_by_power}
 use Rattle.printing.proofs.places.Goals as goal
-
-pub loop-rest-init : goal.loop-rest-init
-loop-rest-init c = (omega arith, omega arith, omega arith, omega arith)
-
-pub loop-rest-preserved : goal.loop-rest-preserved
-loop-rest-preserved c =
-    let l = c.loop-rest in
-    let e : 20 - l.k - 1 ≡ 20 - (l.k + 1) = omega arith in
-    let less = rw e at (digit_less (20 - l.k) l.rest l.invariant.3 (omega arith)) in
-    (omega arith, omega arith, omega arith, less.2)
 
 pub returns : goal.returns
 returns c =
-    let l = c.loop-rest in
-    (omega (arith, one_digit (20 - l.k) l.rest (omega arith)), l.invariant.1)
+    let power = c.ilog10.ensures in
+    let least : 10 ^ c.ilog10.result ≤ max c.args.n 1 = omega arith in
+    (sym (places_by_power 19 _ _ (omega arith) least (omega arith)), omega arith)

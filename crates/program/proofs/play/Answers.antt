@@ -7,14 +7,14 @@ use Rattle.program.proofs.play.Goals as goal
 
 pub first_frame-requires : goal.first_frame-requires
 first_frame-requires c =
-    let e = c.in-Accepted.is in
-    (start_accepted _ _ _ c.start-begun.ensures e, player_fresh _ _ _ c.start-begun.ensures e, search rules)
+    let e = c.in-Ok.is in
+    (start_accepted _ _ _ c.start-begun.ensures _ e, player_fresh _ _ _ c.start-begun.ensures _ e, search rules)
 
-pub returns-in-Refused : goal.returns-in-Refused
-returns-in-Refused c =
-    rw (refusal_played _ _ _ c.start-begun.ensures _ c.in-Refused.is)
+pub returns-in-Err : goal.returns-in-Err
+returns-in-Err c =
+    rw (refusal_played _ _ _ c.start-begun.ensures _ c.in-Err.is)
     at (front_written c.put_refusal.ensures.0 (search rules))
 
-pub returns-in-Accepted : goal.returns-in-Accepted
-returns-in-Accepted c =
-    rw (start_accepted _ _ _ c.start-begun.ensures c.in-Accepted.is) c.first_frame.ensures
+pub returns-in-Ok : goal.returns-in-Ok
+returns-in-Ok c =
+    rw (start_accepted _ _ _ c.start-begun.ensures _ c.in-Ok.is) c.first_frame.ensures

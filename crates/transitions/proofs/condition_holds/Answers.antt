@@ -3,23 +3,25 @@ use Prim.Native.Nat.{◌<◌}
 use native.Mathlib.Omega.{arith}
 use Rattle.model.specs.Plan.{max_parameters}
 use Rattle.layout.specs.Layout.{condition_of, numbers_of}
+use Rattle.layout.proofs.Laws.{laid_passes}
 use Rattle.layout.proofs.NodeLaws.{parameter_there}
+use Rattle.transitions.proofs.Laws.{compares_holds}
 use Rattle.transitions.proofs.condition_holds.Goals as goal
-use Rattle.transitions.proofs.condition_holds.Goals.{After-condition_at-condition}
+use Rattle.transitions.proofs.condition_holds.Goals.{After-condition-condition}
 
-there : (c : After-condition_at-condition) → c.condition_at-condition.result.parameter < max_parameters
-there c = let p = c.requires in parameter_there p.0 p.1 p.2 c.condition_at-condition.ensures
+there : (c : After-condition-condition) → c.condition-condition.result.parameter < max_parameters
+there c = let s = c.args.state.now in parameter_there (laid_passes s.plan.laid) s.place c.requires c.condition-condition.ensures
 
 pub returns : goal.returns
 unfolding condition_of numbers_of
 returns c =
-    rw (c.holds.ensures, c.numbers_at-compared.ensures _ c.requires.1, c.condition_at-condition.ensures)
+    rw (c.holds.ensures, c.numbers_at-compared.ensures _ c.args.state.now.place, c.condition-condition.ensures) (compares_holds _ _ _)
 
 pub numbers_at-compared-requires : goal.numbers_at-compared-requires
-numbers_at-compared-requires c = let p = c.requires in record { plan = _; passes = p.0; place = p.1; below = p.2 }
+numbers_at-compared-requires c = let s = c.args.state.now in record { plan = _; passes = laid_passes s.plan.laid; place = s.place; below = c.requires }
 
-pub offset_bounds-parameters-parameter : goal.offset_bounds-parameters-parameter
-offset_bounds-parameters-parameter c = omega (arith, there (goal.at.offset_bounds-parameters-parameter c).After-condition_at-condition)
+pub offset_bounds-parameters-condition : goal.offset_bounds-parameters-condition
+offset_bounds-parameters-condition c = omega (arith, there (goal.at.offset_bounds-parameters-condition c).After-condition-condition)
 
-pub bounds-parameters-parameter : goal.bounds-parameters-parameter
-bounds-parameters-parameter c = there (goal.at.bounds-parameters-parameter c).After-condition_at-condition
+pub bounds-parameters-condition : goal.bounds-parameters-condition
+bounds-parameters-condition c = there (goal.at.bounds-parameters-condition c).After-condition-condition

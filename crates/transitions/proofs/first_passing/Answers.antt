@@ -10,21 +10,18 @@ use Rattle.transitions.proofs.first_passing.Goals as goal
 pub loop-t-init : goal.loop-t-init
 loop-t-init c = (omega arith, rw sub-zero)
 
-pub condition_holds-requires : goal.condition_holds-requires
-condition_holds-requires c = let p = c.requires in (p.0, p.1, c.if-t-here.false)
-
 pub loop-t-preserved : goal.loop-t-preserved
 loop-t-preserved c =
-    (omega arith, c.loop-t.invariant.1 ∙ tries _ _ _ _ _ _ c.if-t-here.false ∙ rw (← c.condition_holds.ensures, c.if-condition_holds.false))
+    (omega arith, c.loop-t.invariant.1 ∙ tries _ _ _ _ _ _ c.if-t-transitions.false ∙ rw (← c.condition_holds.ensures, c.if-condition_holds.false))
 
-pub returns-then-t-here : goal.returns-then-t-here
+pub returns-then-t-transitions : goal.returns-then-t-transitions
 unfolding winner
-returns-then-t-here c =
-    sym (rw (← transitions_counted c.requires.1) (c.loop-t.invariant.1 ∙ none_left _ _ _ _ _ _ c.if-t-here.true))
+returns-then-t-transitions c =
+    sym (rw (← transitions_counted c.args.state.now.place) (c.loop-t.invariant.1 ∙ none_left _ _ _ _ _ _ c.if-t-transitions.true))
 
 pub returns-then-condition_holds : goal.returns-then-condition_holds
 unfolding winner
 returns-then-condition_holds c =
     sym
-    (rw (← transitions_counted c.requires.1)
-    (c.loop-t.invariant.1 ∙ tries _ _ _ _ _ _ c.if-t-here.false ∙ rw (← c.condition_holds.ensures, c.if-condition_holds.true)))
+    (rw (← transitions_counted c.args.state.now.place)
+    (c.loop-t.invariant.1 ∙ tries _ _ _ _ _ _ c.if-t-transitions.false ∙ rw (← c.condition_holds.ensures, c.if-condition_holds.true)))

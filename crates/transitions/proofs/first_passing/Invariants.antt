@@ -6,7 +6,7 @@ use Rattle.transitions.proofs.first_passing.Given as goal
 
 abbrev pub invariant-loop-t : goal.invariant-loop-t
 invariant-loop-t l =
-    (l.t ≤ l.here.transitions) × (first_passing l.plan l.numbers l.parameters l.here.state 0 l.here.transitions ≡ first_passing l.plan l.numbers l.parameters l.here.state l.t (l.here.transitions - l.t))
+    (l.t ≤ l.state.here.transitions) × (first_passing l.state.plan.words.now l.numbers l.parameters l.state.here.state 0 l.state.here.transitions ≡ first_passing l.state.plan.words.now l.numbers l.parameters l.state.here.state l.t (l.state.here.transitions - l.t))
 
 abbrev pub decreases-loop-t : goal.decreases-loop-t
-decreases-loop-t l = l.here.transitions - l.t
+decreases-loop-t l = l.state.here.transitions - l.t

@@ -1,12 +1,12 @@
 -- `plan::nodes::counted` meets its contract: a clip node takes the next number, and no other does. Assumes nothing.
-use borrow.Author.Tests.{eq-eqb, ne_eqb}
+use Rattle.layout.proofs.NodeLaws.{clip_word, blend_word}
 use Rattle.plan.specs.Parts.{clip_node_after}
 use Rattle.plan.proofs.nodes.counted.Goals as goal
 
-pub returns-then-word-eq0 : goal.returns-then-word-eq0
+pub returns-in-Clip : goal.returns-in-Clip
 unfolding clip_node_after
-returns-then-word-eq0 c = rw (← c.word.ensures.0, eq-eqb _ _ c.if-word-eq0.true)
+returns-in-Clip c = rw (← c.word.ensures.0, clip_word _ _ c.from.ensures c.in-Clip.is)
 
-pub returns : goal.returns
+pub returns-in-Lerp : goal.returns-in-Lerp
 unfolding clip_node_after
-returns c = rw (← c.word.ensures.0, ne_eqb _ _ c.if-word-eq0.false)
+returns-in-Lerp c = rw (← c.word.ensures.0, blend_word _ _ c.from.ensures c.in-Lerp.is)

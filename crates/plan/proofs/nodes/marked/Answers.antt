@@ -1,27 +1,27 @@
 -- `plan::nodes::marked` meets its contract: a clip node has no inputs, and any other has two, which can be marked. Assumes nothing.
-use borrow.Author.Tests.{eq-eqb, ne_eqb}
 use mathlib.Core.Path.{◌≡◌}
 use mathlib.Core.Bool.{false}
 use native.Mathlib.Omega.{arith}
 use lib.Dec.{eqb}
 use Rattle.model.specs.Plan.{word}
+use Rattle.layout.proofs.NodeLaws.{clip_word, blend_word}
 use Rattle.plan.specs.Parts.{marks_after}
 use Rattle.plan.proofs.nodes.marked.Goals as goal
-use Rattle.plan.proofs.nodes.marked.Goals.{Else-word-eq0}
+use Rattle.plan.proofs.nodes.marked.Goals.{In-Lerp}
 
-pub returns-then-word-eq0 : goal.returns-then-word-eq0
+pub returns-in-Clip : goal.returns-in-Clip
 unfolding marks_after
-returns-then-word-eq0 c = rw (← c.word.ensures.0, eq-eqb _ _ c.if-word-eq0.true)
+returns-in-Clip c = rw (← c.word.ensures.0, clip_word _ _ c.from.ensures c.in-Clip.is)
 
-blend : (c : Else-word-eq0) → let a = c.args in eqb (word a.plan.now a.at) 0 ≡ false
-blend c = rw (← c.word.ensures.0) (ne_eqb _ _ c.if-word-eq0.false)
+blend : (c : In-Lerp) → let a = c.args in eqb (word a.plan.now a.at) 0 ≡ false
+blend c = rw (← c.word.ensures.0) (blend_word _ _ c.from.ensures c.in-Lerp.is)
 
 pub bounds-marks-word : goal.bounds-marks-word
-bounds-marks-word c = omega (arith, c.requires.1.a (blend (goal.at.bounds-marks-word c).Else-word-eq0), c.word-2.ensures.0)
+bounds-marks-word c = omega (arith, c.requires.1.a (blend (goal.at.bounds-marks-word c).In-Lerp), c.word-in-Lerp.ensures.0)
 
-pub bounds-marks-word-2 : goal.bounds-marks-word-2
-bounds-marks-word-2 c = omega (arith, c.requires.1.b (blend (goal.at.bounds-marks-word-2 c).Else-word-eq0), c.word-3.ensures.0)
+pub bounds-marks-word-in-Lerp : goal.bounds-marks-word-in-Lerp
+bounds-marks-word-in-Lerp c = omega (arith, c.requires.1.b (blend (goal.at.bounds-marks-word-in-Lerp c).In-Lerp), c.word-in-Lerp-2.ensures.0)
 
-pub returns : goal.returns
+pub returns-in-Lerp : goal.returns-in-Lerp
 unfolding marks_after
-returns c = rw (blend (goal.at.returns c).Else-word-eq0, c.word-2.ensures.0, c.word-3.ensures.0)
+returns-in-Lerp c = rw (blend (goal.at.returns-in-Lerp c).In-Lerp, c.word-in-Lerp.ensures.0, c.word-in-Lerp-2.ensures.0)

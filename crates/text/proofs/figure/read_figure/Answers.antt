@@ -1,46 +1,36 @@
--- `text::figure::read_figure` meets its contract. Assumes nothing.
-use mathlib.Core.Path.{ap}
-use denote.Enum.Declared.{tag_of}
-use Rattle.text.specs.contracts.put.Step.{the_type as step-type}
-use Rattle.model.specs.declared.LineKind.TheVariants.{Figure}
+use Rattle.std.proofs.lemmas.Result.{err_from_is_err_and}
 use Rattle.model.specs.Text.{read_figure}
-use Rattle.text.specs.Figures.{begin}
-use Rattle.text.specs.Steps.{InText, LineAt}
+use Rattle.text.specs.Steps.{InText}
 use Rattle.text.proofs.Laws.{arrives, goes, stops}
-use Rattle.text.proofs.LineLaws.{valued_next}
 use Rattle.text.proofs.ReadLaws.{begin_here, header_limits, header_then}
 use Rattle.text.proofs.figure.read_figure.Goals as goal
-use Rattle.text.proofs.figure.read_figure.Goals.{In-Next}
+use Rattle.text.proofs.figure.read_figure.Goals.{In_ok-header}
 
--- past the first `else` there is a header, and a place behind it
-known : (c : In-Next) → LineAt Figure c.args.text.now c.read_line-header.new.values begin c.in-Next.behind_header.at
-known c = valued_next _ _ _ _ _ _ c.read_line-header.ensures.valued c.in-Next.is
+-- behind the header
+here : (c : In_ok-header) → InText c.args.text.now c.in_ok-header.header
+here c = arrives _ _ _ _ _ _ _ _ c.in_ok-header.ensures.read_by (begin_here _)
 
-here : (c : In-Next) → InText c.args.text.now c.in-Next.behind_header
-here c =
-    arrives _ _ _ _ _ _ _ _ c.read_line-header.ensures.read_by _ (begin_here _) c.in-Next.is
-
-pub returns-in_default : goal.returns-in_default
+pub returns-in_err-header : goal.returns-in_err-header
 unfolding read_figure
-returns-in_default c = stops _ _ _ _ _ _ _ _ c.read_line-header.ensures.read_by _ (ap (tag_of step-type) c.in_default.is)
+returns-in_err-header c =
+    let p = err_from_is_err_and c.from_residual.result c.from_residual.ensures.1 in
+    rw (p.1, p.2) (stops _ _ _ _ _ _ _ _ _ c.in_err-header.ensures.read_by)
 
-pub returns-in_default-joints_step : goal.returns-in_default-joints_step
-returns-in_default-joints_step c =
-    header_then (known (goal.at.returns-in_default-joints_step c).In-Next) _ _ _ _ _ _ c.in-Next.is c.read_line-header.ensures.read_by _ _ _
-    (stops _ _ _ _ _ _ _ _ c.read_lines-joints_step.ensures _ (ap (tag_of step-type) c.in_default-joints_step.is))
+pub read_lines-requires : goal.read_lines-requires
+read_lines-requires c = here (goal.at.read_lines-requires c).In_ok-header
+
+pub returns-in_err-behind : goal.returns-in_err-behind
+returns-in_err-behind c =
+    let p = err_from_is_err_and c.from_residual-in_err-behind.result c.from_residual-in_err-behind.ensures.1 in
+    let header = c.in_ok-header.ensures in
+    rw (p.1, p.2) (header_then header.valued _ _ _ _ _ header.read_by _ _ _ (stops _ _ _ _ _ _ _ _ _ c.in_err-behind.ensures))
 
 pub read_motion-requires : goal.read_motion-requires
 read_motion-requires c =
-    let few = header_limits (known (goal.at.read_motion-requires c).In-Next) in
-    (arrives _ _ _ _ _ _ _ _ c.read_lines-joints_step.ensures _ (here (goal.at.read_motion-requires c).In-Next) c.in-Next-joints_step.is, few.0, few.1)
+    let few = header_limits c.in_ok-header.ensures.valued in
+    (arrives _ _ _ _ _ _ _ _ c.in_ok-behind.ensures (here (goal.at.read_motion-requires c).In_ok-header), few.0, few.1)
 
 pub returns : goal.returns
 returns c =
-    header_then (known (goal.at.returns c).In-Next) _ _ _ _ _ _ c.in-Next.is c.read_line-header.ensures.read_by _ _ _
-    (goes _ _ _ _ _ _ _ _ _ _ _ _ _ c.in-Next-joints_step.is c.read_lines-joints_step.ensures c.read_motion.ensures)
-
-pub read_line-header-requires : goal.read_line-header-requires
-read_line-header-requires c = begin_here _
-
-pub read_lines-joints_step-requires : goal.read_lines-joints_step-requires
-read_lines-joints_step-requires c = here (goal.at.read_lines-joints_step-requires c).In-Next
+    let header = c.in_ok-header.ensures in
+    header_then header.valued _ _ _ _ _ header.read_by _ _ _ (goes _ _ _ _ _ _ _ _ _ _ _ _ c.in_ok-behind.ensures c.read_motion.ensures)

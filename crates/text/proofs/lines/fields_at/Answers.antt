@@ -1,36 +1,30 @@
--- `text::lines::fields_at` meets its contract: what is left of the line that was begun is its line feed, or the line is malformed. Assumes nothing.
-use borrow.Author.Rules.{rules}
-use Prim.Native.Nat.{◌<◌}
-use native.Mathlib.Omega.{arith}
-use mathlib.Core.Path.{refl}
-use lib.ListN.{length, drop}
-use Rattle.model.specs.Text.{forms, fields_in}
-use Rattle.fields.proofs.Bytes.{inside}
-use Rattle.text.specs.declared.lines.LineEnd.TheVariants.{Malformed}
-use Rattle.text.specs.LineFound.{LineFound}
-use Rattle.text.proofs.FieldLaws.{no_line_feed, fields_read}
+use Rattle.std.proofs.Common.{refl, ◌∙◌, length-set, arith}
+use Rattle.text.proofs.FieldLaws.{fields_few, next_missing, next_read, field_missing, no_line_feed, fields_read}
 use Rattle.text.proofs.lines.fields_at.Goals as goal
-use Rattle.text.proofs.lines.fields_at.Goals.{Else-byte-ne10, Then-byte-ne10}
 
--- where the line feed is missing the values are to be as they were; `search` finds this from the return, whatever stands before that
-missing : (c : Then-byte-ne10) → let a = c.args in
-    LineFound a.text.now (fields_in (forms a.kind) (drop a.at a.text.now)) Malformed a.values.now a.values.now
-missing c =
-    let r = c.read_fields-reading in
-    no_line_feed _ _ _ _ _ (omega arith) refl r.ensures.0 r.ensures.1 c.byte.ensures c.if-byte-ne10.true
+pub loop-k-init : goal.loop-k-init
+loop-k-init c = (c.forms-form-items.ensures, refl, refl, refl)
+
+pub returns-in_err-read : goal.returns-in_err-read
+returns-in_err-read c =
+    let inv = c.loop-k.invariant in
+    rw c.from_residual.ensures (field_missing _ _ _ _ _ _ _ inv.3 (next_missing _ _ _ _ _ _ _ _ inv.0 inv.1 c.loop-k-test.true _ c.in_err-read.ensures.step))
+
+pub bounds-read-k : goal.bounds-read-k
+bounds-read-k c = omega (arith, rw c.loop-k.invariant.0 at c.loop-k-test.true, fields_few c.args.kind)
+
+pub loop-k-preserved : goal.loop-k-preserved
+loop-k-preserved c =
+    let inv = c.loop-k.invariant in
+    let next = next_read _ _ _ _ _ _ _ _ inv.0 inv.1 c.loop-k-test.true _ _ c.in_ok-read.ensures.step in
+    (inv.0, c.next.ensures.text ∙ inv.1, rw length-set inv.2, next ∙ inv.3)
 
 pub returns-then-byte-ne10 : goal.returns-then-byte-ne10
-returns-then-byte-ne10 c = search (rules, missing)
-
--- a line feed stands in the text
-room : (c : Else-byte-ne10) → c.read_fields-reading.result.end < length c.args.text.now
-room c =
-    inside c.args.text.now c.read_fields-reading.result.end c.byte.ensures (omega arith)
+returns-then-byte-ne10 c =
+    let inv = c.loop-k.invariant in
+    no_line_feed _ _ _ _ _ _ _ inv.3 (rw inv.0 at c.loop-k-test.false) c.byte.ensures c.if-byte-ne10.true
 
 pub returns : goal.returns
 returns c =
-    let r = c.read_fields-reading in
-    fields_read _ _ _ _ _ (omega arith) refl r.ensures.0 r.ensures.1 c.byte.ensures c.if-byte-ne10.false (omega (arith, room (goal.at.returns c).Else-byte-ne10))
-
-pub overflow_add-result : goal.overflow_add-result
-overflow_add-result c = omega (arith, room (goal.at.overflow_add-result c).Else-byte-ne10)
+    let inv = c.loop-k.invariant in
+    fields_read _ _ _ _ _ _ _ inv.3 (rw inv.0 at c.loop-k-test.false) c.byte.ensures c.if-byte-ne10.false

@@ -8,7 +8,7 @@ use Rattle.layout.proofs.passed.State.condition.Goals as goal
 pub returns : goal.returns
 unfolding condition_parameter operator target_state condition_of
 returns c =
-    rw (c.word_there-3.ensures.0, c.word_there-2.ensures.0, c.word_there.ensures.0, condition_found c.args.self.now.place c.args.t)
+    rw (c.from.ensures, c.word_there-3.ensures.0, c.word_there-2.ensures.0, c.word_there.ensures.0, condition_found c.args.self.now.place c.args.t)
 
 pub overflow_mul-at : goal.overflow_mul-at
 overflow_mul-at c = omega (arith, condition_words c.args.self.now.place (laid_passes c.args.self.now.plan.laid) _ c.requires)

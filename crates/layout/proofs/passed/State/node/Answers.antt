@@ -8,7 +8,7 @@ use Rattle.layout.proofs.passed.State.node.Goals as goal
 pub returns : goal.returns
 unfolding kind input_a input_b node_parameter node_of
 returns c =
-    rw (c.word_there-4.ensures.0, c.word_there-3.ensures.0, c.word_there-2.ensures.0, c.word_there.ensures.0, node_found c.args.self.now.place c.args.i)
+    rw (c.from.ensures, c.word_there-4.ensures.0, c.word_there-3.ensures.0, c.word_there-2.ensures.0, c.word_there.ensures.0, node_found c.args.self.now.place c.args.i)
 
 pub overflow_mul-at : goal.overflow_mul-at
 overflow_mul-at c = omega (arith, node_words c.args.self.now.place (laid_passes c.args.self.now.plan.laid) _ c.requires)

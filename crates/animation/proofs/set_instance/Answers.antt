@@ -1,7 +1,0 @@
--- `animation::set_instance` meets its contract: it is the definition. Assumes nothing.
-use native.Mathlib.Omega.{arith}
-use mathlib.Core.Path.{refl}
-use Rattle.animation.proofs.set_instance.Goals as goal
-
-pub returns : goal.returns
-returns c = refl
