@@ -13,7 +13,7 @@ use std::rt::Env;
 #[derive(Drop)]
 enum Failure {
     // Standard error says what is wrong with the arguments or the file; how the program is used comes behind that.
-    Asked,
+    Said,
     // Standard output cannot be written.
     Unwritten,
 }
@@ -40,7 +40,7 @@ fn refuse(rt: &HostRuntime, what: &[u8], name: &[u8]) -> Failure {
     for part in [b"inspect: ", what, name, b"\n"] {
         let _ = Write::write_all(&mut err, part);
     }
-    Failure::Asked
+    Failure::Said
 }
 
 fn print_uses(rt: &HostRuntime) -> Result<(), Failure> {
@@ -49,7 +49,7 @@ fn print_uses(rt: &HostRuntime) -> Result<(), Failure> {
     }
     // A byte more, so that a longer text is noticed.
     let mut text = [0u8; MAX_TEXT + 1];
-    let count = read_file(rt, ARGUMENT, 2, &mut text).ok_or(Failure::Asked)?;
+    let count = read_file(rt, ARGUMENT, 2, &mut text).ok_or(Failure::Said)?;
     let mut out = [0u8; MAX_PRINTED];
     let length = answer(Question::Uses, &text[..count], &mut out);
     Print::write_all(rt, &out[..length])?;
@@ -62,7 +62,7 @@ fn run(rt: &HostRuntime) -> Result<(), Failure> {
     }
     let mut name = [0u8; PATH_SIZE];
     let got = rt.arg(1, &mut name).map_err(argument_error);
-    let size = or_complain(rt, ARGUMENT, got).ok_or(Failure::Asked)?;
+    let size = or_complain(rt, ARGUMENT, got).ok_or(Failure::Said)?;
     match &name[..size] {
         b"uses" => print_uses(rt),
         b"--help" | b"-h" | b"help" => Ok(write_usage(&mut rt.stdout())?),
@@ -73,7 +73,7 @@ fn run(rt: &HostRuntime) -> Result<(), Failure> {
 fn main(rt: HostRuntime) {
     match run(&rt) {
         Ok(()) => {}
-        Err(Failure::Asked) => {
+        Err(Failure::Said) => {
             let _ = write_usage(&mut rt.stderr());
         }
         Err(Failure::Unwritten) => {

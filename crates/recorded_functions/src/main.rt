@@ -8,7 +8,7 @@ ghost use Rattle.recorded_functions.specs.Sizes.{max_operands};
 mod line;
 mod words;
 
-use fields::{Field, read_field};
+use fields::read_field;
 use line::Line;
 use model::FieldForm;
 use model::limits::{MATRIX_FLOATS as MATRIX, NUMBER_BYTES, POSE_FLOATS as POSE};
@@ -41,10 +41,8 @@ fn parse(row: &[u8]) -> Option<[u32; MAX_OPERANDS]> {
         let [b',', digits @ ..] = operand else {
             return None;
         };
-        let Field::Value { value, end: _ } = read_field(digits, 0, FieldForm::Bits) else {
-            return None;
-        };
-        *word = u32::try_from(value).ok()?;
+        let field = read_field(digits, 0, FieldForm::Bits)?;
+        *word = u32::try_from(field.value).ok()?;
     }
     Some(words)
 }
