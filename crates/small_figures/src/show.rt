@@ -17,25 +17,23 @@ pub fn text<W: Write>(to: &mut W, s: &[u8]) {
 }
 
 // The call's name is a line.
-pub fn answer<W: Write>(to: &mut W, call: &[u8], a: Answer) {
+pub fn answer<W: Write>(to: &mut W, call: &[u8], answer: Answer) {
     text(to, call);
     let mut out = [0u8; REFUSAL_SIZE];
-    let size = put_answer(&mut out, 0, a);
-    write_front(to, &out, size);
+    let size = put_answer(&mut out, 0, answer);
+    let _ = write_front(to, &out, size);
 }
 
 // Clock, speed, state and transition.
-pub fn player<W: Write>(to: &mut W, p: Player) {
+pub fn player<W: Write>(to: &mut W, player: Player) {
     let mut out = [0u8; PLAYER_SIZE];
-    let size = put_player(&mut out, 0, p);
-    write_front(to, &out, size);
+    let size = put_player(&mut out, 0, player);
+    let _ = write_front(to, &out, size);
 }
 
-pub fn outcome<W: Write>(to: &mut W, call: &[u8], o: Outcome) {
-    let a = o.answer;
-    let p = o.player;
-    answer(to, call, a);
-    player(to, p);
+pub fn outcome<W: Write>(to: &mut W, call: &[u8], outcome: Outcome) {
+    answer(to, call, outcome.answer);
+    player(to, outcome.player);
 }
 
 // The matrices of an output's first joints.
@@ -44,7 +42,7 @@ pub fn joints<W: Write>(to: &mut W, count: usize, output: &[f32])
 {
     let mut out = [0u8; MAX_PRINTED];
     let size = put_joints(&mut out, 0, count, output);
-    write_front(to, &out, size);
+    let _ = write_front(to, &out, size);
 }
 
 // All floats of an output.
@@ -54,6 +52,6 @@ pub fn floats<W: Write>(to: &mut W, output: &[f32])
     let mut out = [0u8; NUMBER_BYTES * MAX_FLOATS];
     text(to, b"output");
     let size = put_floats(&mut out, 0, output);
-    write_front(to, &out, size);
+    let _ = write_front(to, &out, size);
     text(to, b"\n");
 }
