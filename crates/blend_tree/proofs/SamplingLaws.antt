@@ -26,7 +26,7 @@ use Rattle.layout.proofs.Laws.{joints_found}
 use Rattle.animation.specs.declared.Position.{Position}
 use Rattle.animation.specs.Sampling.{position_in, pose_from}
 use Rattle.blend_tree.specs.declared.sampling.Clip.{Clip}
-use Rattle.blend_tree.specs.declared.Joints.{Joints}
+use Rattle.lanes.specs.declared.Joints.{Joints}
 use Rattle.blend_tree.specs.Blocks.{InBlock}
 use Rattle.blend_tree.specs.Sampling.{clip_of, Sized, position_at, samples_at, pose_start, pose_between, Sampled}
 

@@ -5,7 +5,7 @@ use Rattle.model.specs.Pose.{identity_pose}
 use Rattle.model.specs.Tree.{node_poses, state_pose}
 use Rattle.layout.specs.declared.Layout.{Layout}
 use Rattle.lanes.specs.Lanes.{block_size, lane_at}
-use Rattle.blend_tree.specs.declared.Joints.{Joints}
+use Rattle.lanes.specs.declared.Joints.{Joints}
 use Rattle.blend_tree.specs.declared.Source.{Source}
 
 -- lane i of the first `count` is the pose f i

@@ -32,13 +32,6 @@ pub struct Source<'a> {
     ghost filled: { Slots state.figure.plan.words.now state.here.state slots.now },
 }
 
-// A row of joints.
-#[derive(Clone, Copy)]
-pub struct Joints {
-    pub first: usize,
-    pub count: usize,
-}
-
 // One for each node of a state, and one more.
 pub const SLOTS: usize = MAX_NODES + 1;
 

@@ -9,9 +9,9 @@ ghost use Rattle.blend_tree.specs.Sampling.{pose_between, Sampled};
 ghost use Rattle.blend_tree.specs.Blocks.{Filled, FilledFor, InBlock, node_pose_at, state_pose_at};
 
 use crate::sampling::{clip_at, clip_position, clip_samples};
-use crate::{Joints, Source, StateAt};
+use crate::{Source, StateAt};
 use animation::{Position, instance_at, pose_between};
-use lanes::{BLOCK_FLOATS, lane, set_lane};
+use lanes::{BLOCK_FLOATS, Joints, lane, set_lane};
 use layout::passed::Figure;
 use layout::{Kind, pose_at};
 use model::limits::POSE_FLOATS;

@@ -18,6 +18,8 @@ use Rattle.model.specs.declared.FrameKind.TheVariants.{Ordinary, Page}
 use Rattle.model.specs.Run as Run
 use Rattle.model.specs.Text.{front, comma, line_feed, digit_count, numeral, max_word, Field, none, field, field_in, begins}
 use Rattle.model.proofs.Laws.Text.{field_law}
+use Rattle.fields.specs.declared.Field as Found
+use Rattle.fields.specs.Found.{found}
 use Rattle.fields.specs.Wide.{wide_bits_in}
 use Rattle.fields.proofs.Bytes.{there}
 use Rattle.calls.specs.declared.Call.{Call}
@@ -57,6 +59,16 @@ pub field_stepped : {A : Type 0} {form : ℕ → A} (read : List ℕ → Field) 
 field_stepped read {before = before} over is step =
     let here = comma_read read (left before) (sym over.test) in
     record { text = rw over.place at step.text; value = rw (here, ← left_behind over, ← is) step.value }
+
+-- a field as its reader has it
+module _ (here : Cursor) where
+  pub found_none : Stepped (λ v. v) (found here.text.now None) here here None
+  unfolding found
+  found_none = record { text = refl; value = refl }
+
+  pub found_some : (f : Found.Field) → Stepped (λ v. v) (found here.text.now (Some f)) here (record { text = here.text; at = f.end }) (Some f.value)
+  unfolding found
+  found_some f = record { text = refl; value = (f.value, refl, refl) }
 
 -- the same in another form
 module _ {A : Type 0} (form : ℕ → A) {f : Field} {before after : Cursor} where
@@ -155,8 +167,9 @@ comma_field read s {v} {rest} e = at (eqb (front s) comma) e
     at false e = absurd (none_field e)
 
 -- the bits of a 32-bit float fit 32 bits
-pub bits_fit : (s : List ℕ) {v : ℕ} {rest : List ℕ} → field_in Bits s ≡ field v rest → v < 2 ^ 32
-bits_fit s e = omega (arith, (field_law Bits s _ _ e).most)
+pub bits_fit : {before after : Cursor} {v : ℕ} → Stepped (λ v. v) (bits_field (left before)) before after (Some v) → v < 2 ^ 32
+bits_fit {before = before} step =
+    omega (arith, step.value.1, (field_law Bits (drop 1 (left before)) _ _ (comma_field (field_in Bits) (left before) step.value.2)).most)
 
 -- what is left behind a field is not longer
 abbrev Keeps : (List ℕ → Field) → Type 0

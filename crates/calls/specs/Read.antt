@@ -1,7 +1,10 @@
 -- What the reader's types say of a text. Definitions only.
 use Rattle.std.specs.Prelude.{ℕ, ◌+◌, ◌-◌, ◌≤◌, ◌≡◌, Bool, true, cond, List, length, drop, Float, Option, Some, None, MatchOption, Result, Ok, Err}
+use denote.Ref.{Bor}
 use Rattle.model.specs.Text.{begins, Field, none, field}
 use Rattle.model.specs.Run as Run
+use Rattle.fields.specs.declared.Field as Found
+use Rattle.fields.specs.Found.{found}
 use Rattle.calls.specs.declared.Call.{Call}
 use Rattle.calls.specs.declared.Call.TheVariants.{Update, Speed, Set, Frame, Loops}
 use Rattle.calls.specs.declared.CallAt.{CallAt}
@@ -28,6 +31,10 @@ as_call (Run.Loops state node time) = Loops state node time
 -- each call that the program makes of a time is the one that the text's line makes of it
 abbrev pub Makes : (Float → Call → Type 0) → (Float → Run.Call) → Type 0
 Makes made make = (time : Float) (call : Call) → made time call → call_of call ≡ make time
+
+-- each field that the program reads at a place is the one that the text has there
+abbrev pub Reads : (Bor (List ℕ) → ℕ → Option Found.Field → Type 0) → (List ℕ → Field) → Type 0
+Reads read parse = (text : Bor (List ℕ)) (at : ℕ) (field : Option Found.Field) → read text at field → found text.now field ≡ parse (drop at text.now)
 
 -- ---- the call at a place of a text, and the place behind its line; none where the line is malformed
 

@@ -1,16 +1,16 @@
 // Lists of calls as text, a call a line.
 #![tactic(auto)]
 
-ghost use Rattle.std.specs.Prelude.{◌≡◌, ◌≤◌, ◌<◌, ℕ, Float, length, get_or, drop};
+ghost use Rattle.std.specs.Prelude.{List, ◌≡◌, ◌≤◌, ◌<◌, ℕ, Float, length, get_or, drop};
 ghost use Rattle.std.specs.Float.{binary32, binary64};
 ghost use Rattle.std.specs.Float.Ieee.{of_bits};
 ghost use Rattle.model.specs.Run as Run;
-ghost use Rattle.model.specs.Text.{begins};
+ghost use Rattle.model.specs.Text as Text;
 ghost use Rattle.fields.specs.Found.{found};
-ghost use Rattle.calls.specs.CallText.{decimal_field, bits_field, wide_field};
+ghost use Rattle.calls.specs.CallText.{behind_comma, decimal_field, bits_field, wide_field};
 ghost use Rattle.calls.specs.CallText.{line_end, time_line, set_line, frame_line, loops_line};
 ghost use Rattle.calls.specs.CallText.{call_in, line_count, call_list};
-ghost use Rattle.calls.specs.Read.{call_of, Makes, line_read, call_at, left, Skipped, Stepped, CallRead, checked};
+ghost use Rattle.calls.specs.Read.{call_of, Makes, Reads, line_read, call_at, left, Skipped, Stepped, CallRead, checked};
 
 use fields::{Field, name_at, read_field, read_wide_bits};
 use float::{f32_from_bits, f64_from_bits};
@@ -84,43 +84,37 @@ impl Cursor<'_> {
         length > 0
     }
 
-    // The value of a field that was read here; the cursor goes behind it.
-    #[tactic(auto, unfolding(fields::specs::Found::found))]
-    fn step(&mut self, field: Option<Field>) -> Option<usize>
-        ensures { Stepped (λ v. v) (found self.old.text.now field) self.old self.new result }
-    {
-        let field = field?;
-        self.at = field.end;
-        Some(field.value)
-    }
-
-    // The next field, behind a comma: a decimal, the bits of a 32-bit float, those of a 64-bit float.
-    fn decimal(&mut self) -> Option<usize>
-        ensures { Stepped (λ v. v) (decimal_field (left self.old)) self.old self.new result }
+    // The value of the next field, behind a comma; the cursor goes behind it.
+    fn field<F: Fn(&[u8], usize) -> Option<Field>>(&mut self, read: F) -> Option<usize>
+        requires { F.IsAlwaysCallable read }
+        ensures { (parse : List ℕ → Text.Field) → Reads (F.post read) parse
+            → Stepped (λ v. v) (behind_comma parse (left self.old)) self.old self.new result }
     {
         if !self.skip(b",") {
             return None;
         }
-        self.step(read_field(self.text, self.at, WORD))
+        let field = read(self.text, self.at)?;
+        self.at = field.end;
+        Some(field.value)
+    }
+
+    fn decimal(&mut self) -> Option<usize>
+        ensures { Stepped (λ v. v) (decimal_field (left self.old)) self.old self.new result }
+    {
+        self.field(|text, at| read_field(text, at, WORD))
     }
 
     fn float(&mut self) -> Option<f32>
         ensures { Stepped (of_bits binary32) (bits_field (left self.old)) self.old self.new result }
     {
-        if !self.skip(b",") {
-            return None;
-        }
-        let bits = self.step(read_field(self.text, self.at, FieldForm::Bits))?;
+        let bits = self.field(|text, at| read_field(text, at, FieldForm::Bits))?;
         Some(f32_from_bits(bits as u32))
     }
 
     fn wide_float(&mut self) -> Option<f64>
         ensures { Stepped (of_bits binary64) (wide_field (left self.old)) self.old self.new result }
     {
-        if !self.skip(b",") {
-            return None;
-        }
-        let bits = self.step(read_wide_bits(self.text, self.at))?;
+        let bits = self.field(read_wide_bits)?;
         Some(f64_from_bits(bits as u64))
     }
 

@@ -12,6 +12,13 @@ pub const BLOCK_SIZE: usize = 32;
 
 pub const BLOCK_FLOATS: usize = POSE_FLOATS * BLOCK_SIZE;
 
+// A row of joints. Lane i of their block is joint first + i.
+#[derive(Clone, Copy)]
+pub struct Joints {
+    pub first: usize,
+    pub count: usize,
+}
+
 pub fn lane(block: &[f32; BLOCK_FLOATS], j: usize) -> Pose
     requires { j < block_size }
     ensures { result ≡ lane_at block.now j }

@@ -14,9 +14,9 @@ ghost use Rattle.output_pose.specs.Shown.{JointShown, TargetSynchronized, Blende
 use animation::instance_at;
 use blend_tree::poses::combine_all;
 use blend_tree::sampling::{clip_at, clip_position, clip_samples, joint_pose};
-use blend_tree::{Joints, SLOTS, Source, StateAt};
+use blend_tree::{SLOTS, Source, StateAt};
 use float::{narrow, widen};
-use lanes::{BLOCK_FLOATS, BLOCK_SIZE};
+use lanes::{BLOCK_FLOATS, BLOCK_SIZE, Joints};
 use layout::passed::Figure;
 use model::limits::{MAX_INSTANCES, MAX_PARAMETERS};
 use model::{ClipInstance, FrameKind, Pose, Transition};
@@ -71,9 +71,12 @@ fn show_blocks(
     let total = plan.layout.joints;
     let mut block = [0.0f32; BLOCK_FLOATS];
     for first in (0..total).step_by(BLOCK_SIZE) {
-        let count = BLOCK_SIZE.min(total - first);
-        shown_poses(source, target, Joints { first, count }, &mut block);
-        calculate_global_poses(kind, plan.words, &block, first, count, output);
+        let joints = Joints {
+            first,
+            count: BLOCK_SIZE.min(total - first),
+        };
+        shown_poses(source, target, joints, &mut block);
+        calculate_global_poses(kind, plan, &block, joints, output);
     }
 }
 

@@ -7,44 +7,41 @@ use Rattle.std.proofs.Math.Nat.{pow-succ'}
 use Rattle.std.proofs.Math.Seq.{length-sets, take-suc, take-append_seam}
 use Rattle.std.proofs.lemmas.Bool.{lt-ltb, le-ltb}
 use Rattle.std.proofs.lemmas.List.{append-nil, map-append, drop-drop, drop-set}
-use Rattle.std.proofs.lemmas.List.Edits.{sets-eq}
+use Rattle.std.proofs.lemmas.List.Edits.{sets, sets-eq}
+use borrow.Rule.Slice.Mut.{set_vals}
 use borrow.Rule.Slice.PartMut.{put_mid}
-use Rattle.model.specs.declared.LineKind.TheVariants.{Joint}
 use Rattle.model.specs.Plan.{output_at}
-use Rattle.model.specs.Text.{comma, line_feed, name, overwritten}
+use Rattle.model.specs.Text.{comma, overwritten}
 use Rattle.model.specs.Program.{glyph, digits, places, decimal_text, bits_text, decimal_fields, bits_fields}
-use Rattle.model.specs.Program.{refused_line, joint_line, joined}
+use Rattle.model.specs.Program.{joined}
 use Rattle.model.proofs.Laws.Digits.{length_digits}
 use Rattle.model.proofs.Laws.Stores.{sets-append}
-use Rattle.printing.specs.Written.{Written, Front, float_fields, matrix_in}
+use Rattle.printing.specs.declared.Writer.{Writer}
+use Rattle.printing.specs.Written.{Wrote, Front, float_fields, matrix_in}
 use Rattle.printing.specs.Sizes.{matrix_floats}
 
 -- ---- texts one behind the other
 
-pub nothing_written : (xs : List ℕ) (at : ℕ) → Written xs at [] xs at
-nothing_written xs at = record { stored = refl; ended = omega arith }
-
-pub byte_written : (xs : List ℕ) (at b : ℕ) → Written xs at (b ∷ []) (set xs at b) (at + 1)
-byte_written xs at b = record { stored = refl; ended = refl }
+pub nothing_written : (p : Writer) → Wrote [] p p
+nothing_written p = record { stored = refl; moved = omega arith; kept = refl; same = refl }
 
 -- one text and another right behind it
-pub more_written : {xs ys zs text more : List ℕ} {at middle end : ℕ}
-    → Written xs at text ys middle → Written ys middle more zs end → Written xs at (text ++ more) zs end
-more_written {xs = xs} {text = text} {more = more} {at = at} p q = record {
-  stored = q.stored ∙ rw (p.ended, p.stored) (sets-append xs at text more);
-  ended = omega (arith, length-append text more);
+pub more_written : {p q r : Writer} {text more : List ℕ} → Wrote text p q → Wrote more q r → Wrote (text ++ more) p r
+more_written {p = p} {text = text} {more = more} a b = record {
+  stored = b.stored ∙ rw (a.moved, a.stored) (sets-append p.out.now p.at text more);
+  moved = omega (arith, length-append text more);
+  kept = b.kept ∙ a.kept;
+  same = b.same ∙ a.same;
 }
 
-pub length_written : {xs ys text : List ℕ} {at end : ℕ} → Written xs at text ys end → length ys ≡ length xs
-length_written {xs = xs} {text = text} {at = at} p = ap length p.stored ∙ length-sets xs at text
-
--- a text from the first byte on
-pub front_written : {xs text ys : List ℕ} {end : ℕ} → Written xs 0 text ys end → end ≤ length xs → Front text xs ys end
+-- a text from the first byte on, in a slice that was lent to a writer: what it held before, and what it holds after
+pub front_written : {p q : Writer} {text before after : List ℕ} → Wrote text p q → p.out.now ≡ before → p.at ≡ 0
+    → q.at ≤ length before → after ≡ q.out.now → Front text before after q.at
 unfolding overwritten
-front_written {xs = xs} {text = text} p room = record {
+front_written {text = text} {before = before} w held first room same = record {
   ended = omega arith;
-  inside = omega (arith, length_written p);
-  whole = p.stored ∙ sets-eq text xs 0 (omega arith) ∙ rw zero-add;
+  inside = omega (arith, ap length same, ap length held);
+  whole = rw (same, w.stored, held, first, sets-eq text before 0 (omega arith), zero-add) refl;
 }
 
 -- what was put over the front of a list
@@ -62,11 +59,14 @@ pub front_text : {text before after : List ℕ} {end : ℕ} → Front text befor
 front_text {text = text} {before = before} f = rw (f.ended, f.whole) (front_is text before)
 
 -- a text that is put over a part of its length
-pub copied_written : (xs text : List ℕ) (at : ℕ) {ys : List ℕ} {end : ℕ} → end ≡ at + length text → end ≤ length xs → ys ≡ text
-    → Written xs at text (put_mid at (end - at) xs ys) end
-copied_written xs text at {end = end} long room same =
-    let behind : at + (end - at) ≡ at + length text = omega arith in
-    record { stored = rw (same, drop-drop, behind, ← append_assoc) (sym (sets-eq text xs at (omega arith))); ended = long }
+pub copied : (p : Writer) (text : List ℕ) {ys : List ℕ} {n : ℕ} → n ≡ length text → p.at + n ≤ length p.out.now → ys ≡ text
+    → Wrote text p (record { out = set_vals (put_mid p.at (p.at + n - p.at) p.out.now ys) p.out; at = p.at + n })
+copied p text {ys = ys} {n = n} long room same =
+    let end : p.at + (p.at + n - p.at) ≡ p.at + length text = omega arith in
+    let stored : put_mid p.at (p.at + n - p.at) p.out.now ys ≡ sets p.out.now p.at text =
+    rw (same, drop-drop, end, ← append_assoc) (sym (sets-eq text p.out.now p.at (omega arith)))
+    in
+    record { stored = stored; moved = omega arith; kept = ap length stored ∙ length-sets p.out.now p.at text; same = refl }
 
 -- ---- digits
 
@@ -112,10 +112,10 @@ short_index n small =
     omega (arith, ap length (append-nil (digits 10 k n)), length_digits 10 k n, few_places 2 19 n small)
 
 -- the bits of one float
-pub float_written : {xs ys : List ℕ} {at end : ℕ} (x : Float) (b : ℕ) → b ≡ to_bits binary32 x
-    → Written xs at (comma ∷ digits 16 8 b) ys end → Written xs at (float_fields (x ∷ [])) ys end
+pub float_written : {p q : Writer} (x : Float) (b : ℕ) → b ≡ to_bits binary32 x
+    → Wrote (comma ∷ digits 16 8 b) p q → Wrote (float_fields (x ∷ [])) p q
 unfolding bits_fields bits_text
-float_written x b e p = rw (append-nil, ← e) p
+float_written x b e w = rw (append-nil, ← e) w
 
 bits_append : (vs ws : List ℕ) → bits_fields (vs ++ ws) ≡ bits_fields vs ++ bits_fields ws
 unfolding bits_fields
@@ -124,20 +124,18 @@ bits_append (v ∷ vs) ws =
     rw (bits_append vs ws) (sym (append_assoc (comma ∷ bits_text v) (bits_fields vs) (bits_fields ws)))
 
 -- some floats and others right behind them
-pub floats_written : {xs ys zs : List ℕ} {at middle end : ℕ} (some others : List Float)
-    → Written xs at (float_fields some) ys middle → Written ys middle (float_fields others) zs end
-    → Written xs at (float_fields (some ++ others)) zs end
-floats_written some others p q =
+pub floats_written : {p q r : Writer} (some others : List Float)
+    → Wrote (float_fields some) p q → Wrote (float_fields others) q r → Wrote (float_fields (some ++ others)) p r
+floats_written some others a b =
     let bits_of = to_bits binary32 in
-    rw (map-append bits_of some others, bits_append (map bits_of some) (map bits_of others)) (more_written p q)
+    rw (map-append bits_of some others, bits_append (map bits_of some) (map bits_of others)) (more_written a b)
 
 -- one float more
-pub next_float : {xs ys zs : List ℕ} {at middle end : ℕ} (floats : List Float) (k : ℕ) → k < length floats
-    → Written xs at (float_fields (take k floats)) ys middle
-    → Written ys middle (float_fields (get_or floats k nan ∷ [])) zs end
-    → Written xs at (float_fields (take (k + 1) floats)) zs end
-next_float floats k l p q =
-    rw (add-one k, take-suc floats k nan l) (floats_written (take k floats) (get_or floats k nan ∷ []) p q)
+pub next_float : {p q r : Writer} (floats : List Float) (k : ℕ) → k < length floats
+    → Wrote (float_fields (take k floats)) p q → Wrote (float_fields (get_or floats k nan ∷ [])) q r
+    → Wrote (float_fields (take (k + 1) floats)) p r
+next_float floats k l a b =
+    rw (add-one k, take-suc floats k nan l) (floats_written (take k floats) (get_or floats k nan ∷ []) a b)
 
 -- ---- lines
 
@@ -145,29 +143,20 @@ two_decimals : (m n : ℕ) → decimal_fields (m ∷ n ∷ []) ≡ decimal_field
 unfolding decimal_fields
 two_decimals m n = ap (λ (text : List ℕ). comma ∷ text ++ decimal_fields (n ∷ [])) (sym (append-nil (decimal_text m)))
 
--- of as many floats as a matrix has, from joint j's place on
-pub joint_written : {xs a b c : List ℕ} {at p q r n : ℕ} (j : ℕ) (output : List Float) → n ≡ matrix_floats
-    → Written xs at (name Joint) a p → Written a p (decimal_fields (j ∷ [])) b q
-    → Written b q (float_fields (take n (drop (output_at j) output))) c r
-    → Written xs at (joint_line j (matrix_in output j)) (set c r line_feed) (r + 1)
-unfolding joint_line
-joint_written j output e w d f =
-    more_written (more_written (more_written w d) (rw e at f)) (byte_written _ _ line_feed)
+pub decimals_written : {p q r : Writer} (m n : ℕ) {k : ℕ} → k ≡ m → Wrote (decimal_fields (k ∷ [])) p q
+    → Wrote (decimal_fields (n ∷ [])) q r → Wrote (decimal_fields (m ∷ n ∷ [])) p r
+decimals_written m n e a b = rw (two_decimals m n) (more_written (rw e at a) b)
 
-pub refusal_written : {xs a b c : List ℕ} {at p q r n : ℕ} (number place : ℕ) → n ≡ number
-    → Written xs at (114 ∷ 101 ∷ 102 ∷ 117 ∷ 115 ∷ 101 ∷ 100 ∷ []) a p → Written a p (decimal_fields (n ∷ [])) b q
-    → Written b q (decimal_fields (place ∷ [])) c r
-    → Written xs at (refused_line number place) (set c r line_feed) (r + 1)
-unfolding refused_line
-refusal_written number place e w d f =
-    rw (two_decimals number place) (more_written (more_written w (more_written (rw e at d) f)) (byte_written _ _ line_feed))
+-- of as many floats as a matrix has, from joint j's place on
+pub matrix_written : {p q : Writer} (j : ℕ) (output : List Float) {n : ℕ} → n ≡ matrix_floats
+    → Wrote (float_fields (take n (drop (output_at j) output))) p q → Wrote (float_fields (matrix_in output j)) p q
+matrix_written j output e w = rw e at w
 
 -- one line more
-pub next_line : {xs ys zs : List ℕ} {at middle end : ℕ} (n : ℕ) (lines : ℕ → List ℕ)
-    → Written xs at (joined n lines) ys middle → Written ys middle (lines n) zs end
-    → Written xs at (joined (n + 1) lines) zs end
+pub next_line : {p q r : Writer} (n : ℕ) (lines : ℕ → List ℕ)
+    → Wrote (joined n lines) p q → Wrote (lines n) q r → Wrote (joined (n + 1) lines) p r
 unfolding joined
-next_line n lines p q = rw (add-one n) (more_written p q)
+next_line n lines a b = rw (add-one n) (more_written a b)
 
 -- equal lines make equal text
 pub joined_same : (n : ℕ) (f g : ℕ → List ℕ) → ((j : ℕ) → j < n → f j ≡ g j) → joined n f ≡ joined n g

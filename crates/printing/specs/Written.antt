@@ -6,19 +6,26 @@ use Rattle.std.specs.Float.Ieee.{to_bits}
 use Rattle.model.specs.Plan.{output_at}
 use Rattle.model.specs.Program.{bits_fields, joint_line, joined}
 use Rattle.model.specs.Text.{overwritten}
+use Rattle.printing.specs.declared.Writer.{Writer}
 use Rattle.printing.specs.Sizes.{matrix_floats}
 
--- `after` is `before` with the text stored from place `at` on, and `end` is the place behind the text
-pub record Written (before : List ℕ) (at : ℕ) (text after : List ℕ) (end : ℕ) : Type 0 where
-  pub stored : after ≡ sets before at text
-  pub ended : end ≡ at + length text
+-- there is room for n bytes more
+abbrev pub HasRoom : ℕ → Writer → Type 0
+HasRoom n p = p.at + n ≤ length p.out.now
+
+-- q is p with the text stored behind what was written, in the same slice
+pub record Wrote (text : List ℕ) (p q : Writer) : Type 0 where
+  pub stored : q.out.now ≡ sets p.out.now p.at text
+  pub moved : q.at ≡ p.at + length text
+  pub kept : length q.out.now ≡ length p.out.now
+  pub same : q.out.ghost_name ≡ p.out.ghost_name
 
 -- the same of a text that has `size` bytes at the most, and of one that has as many
-abbrev pub WrittenUpTo : ℕ → List ℕ → ℕ → List ℕ → List ℕ → ℕ → Type 0
-WrittenUpTo size before at text after end = Written before at text after end × (end ≤ at + size)
+abbrev pub WroteUpTo : ℕ → List ℕ → Writer → Writer → Type 0
+WroteUpTo size text p q = Wrote text p q × (q.at ≤ p.at + size)
 
-abbrev pub WrittenExactly : ℕ → List ℕ → ℕ → List ℕ → List ℕ → ℕ → Type 0
-WrittenExactly size before at text after end = Written before at text after end × (end ≡ at + size)
+abbrev pub WroteExactly : ℕ → List ℕ → Writer → Writer → Type 0
+WroteExactly size text p q = Wrote text p q × (q.at ≡ p.at + size)
 
 -- a text from the first place on: its length, which is inside, and the whole slice afterwards
 pub record Front (text before after : List ℕ) (end : ℕ) : Type 0 where

@@ -1,6 +1,5 @@
-// What programs print, put into a slice of bytes from a place on: fields, a refusal, a line for each joint.
-// Each function returns the place behind what it put.
-// Not by `Display` and `write!`: `write_fmt` says which bytes it wrote only where it answers Ok, and nothing says where it does. `Written` holds at each return.
+// What programs print, put into a slice of bytes: fields, a refusal, a line for each joint.
+// Not by `Display` and `write!`: `write_fmt` says which bytes it wrote only where it answers Ok, and nothing says where it does. `Wrote` holds at each return.
 #![tactic(auto)]
 
 ghost use Rattle.std.specs.Prelude.{◌≡◌, [], ◌∷◌, ◌+◌, ◌*◌, ◌<◌, ◌≤◌, length};
@@ -8,7 +7,7 @@ ghost use Rattle.model.specs.Answers.{number_of};
 ghost use Rattle.model.specs.Text.{comma};
 ghost use Rattle.model.specs.Plan.{max_joints, output_at};
 ghost use Rattle.model.specs.Program.{glyph, digits, places, decimal_fields, refused_line, joint_line, number_bytes};
-ghost use Rattle.printing.specs.Written.{Written, WrittenUpTo, WrittenExactly, float_fields, matrix_in, joint_lines};
+ghost use Rattle.printing.specs.Written.{HasRoom, Wrote, WroteUpTo, WroteExactly, float_fields, matrix_in, joint_lines};
 ghost use Rattle.printing.specs.Sizes.{max_digits, decimal_size, refusal_size, joint_size};
 
 use float::f32_to_bits;
@@ -40,6 +39,13 @@ fn glyph(d: usize) -> u8
     b"0123456789abcdef"[d]
 }
 
+// How many decimal digits n has.
+fn places(n: usize) -> usize
+    ensures { (result ≡ places 19 n) × (result ≤ max_digits) }
+{
+    n.max(1).ilog10() as usize + 1
+}
+
 // The last digits of n, as many as there is room for.
 fn put_digits(out: &mut [u8], base: usize, n: usize)
     requires { (2 ≤ base) × (base ≤ 16) }
@@ -52,100 +58,99 @@ fn put_digits(out: &mut [u8], base: usize, n: usize)
     }
 }
 
-// How many decimal digits n has.
-fn places(n: usize) -> usize
-    ensures { (result ≡ places 19 n) × (result ≤ max_digits) }
-{
-    n.max(1).ilog10() as usize + 1
+// A lent slice, and the place up to which it is written.
+#[derive(Drop)]
+pub struct Writer<'a> {
+    pub out: &'a mut [u8],
+    pub at: usize,
 }
 
-pub fn put_bytes(out: &mut [u8], at: usize, bytes: &[u8]) -> usize
-    requires { at + length bytes.now ≤ length out.old }
-    ensures { Written out.old at bytes.now out.new result }
-{
-    let behind = at + bytes.len();
-    out[at..behind].copy_from_slice(bytes);
-    behind
-}
-
-// A comma, and the last `count` digits of n.
-pub fn put_field(out: &mut [u8], at: usize, base: usize, count: usize, n: usize) -> usize
-    requires { (2 ≤ base) × (base ≤ 16) × (at + 1 + count ≤ length out.old) }
-    ensures { Written out.old at (comma ∷ digits base count n) out.new result }
-{
-    out[at] = b',';
-    let behind = at + 1 + count;
-    put_digits(&mut out[at + 1..behind], base, n);
-    behind
-}
-
-pub fn put_decimal(out: &mut [u8], at: usize, n: usize) -> usize
-    requires { at + decimal_size ≤ length out.old }
-    ensures { WrittenUpTo decimal_size out.old at (decimal_fields (n ∷ [])) out.new result }
-{
-    put_field(out, at, 10, places(n), n)
-}
-
-// A comma, and the bits of x.
-pub fn put_bits(out: &mut [u8], at: usize, x: f32) -> usize
-    requires { at + number_bytes ≤ length out.old }
-    ensures { WrittenExactly number_bytes out.old at (float_fields (x ∷ [])) out.new result }
-{
-    put_field(out, at, 16, FLOAT_DIGITS, f32_to_bits(x) as usize)
-}
-
-pub fn put_floats(out: &mut [u8], at: usize, floats: &[f32]) -> usize
-    requires { at + number_bytes * length floats.now ≤ length out.old }
-    ensures { WrittenExactly (number_bytes * length floats.now)
-        out.old at (float_fields floats.now) out.new result }
-{
-    let mut behind = at;
-    for x in floats {
-        behind = put_bits(out, behind, *x);
+impl<'a> Writer<'a> {
+    pub fn new(out: &'a mut [u8]) -> Writer<'a>
+        ensures same { result.out.ghost_name ≡ out.entry.ghost_name }
+        ensures held { result.out.now ≡ out.old }
+        ensures first { result.at ≡ 0 }
+    {
+        Writer { out, at: 0 }
     }
-    behind
-}
 
-pub fn put_refusal(out: &mut [u8], at: usize, refusal: Refusal) -> usize
-    requires { at + refusal_size ≤ length out.old }
-    ensures { WrittenUpTo refusal_size
-        out.old at (refused_line (number_of refusal.reason) refusal.place) out.new result }
-{
-    let behind_name = put_bytes(out, at, b"refused");
-    let behind_number = put_decimal(out, behind_name, refusal.reason.number());
-    let behind_place = put_decimal(out, behind_number, refusal.place);
-    out[behind_place] = b'\n';
-    behind_place + 1
-}
-
-// Joint j's line, for its matrix in an output.
-#[tactic(auto, using(crate::proofs::Laws::short_index))]
-fn put_joint(out: &mut [u8], at: usize, j: usize, output: &[f32]) -> usize
-    requires { (j < max_joints)
-        × (at + joint_size ≤ length out.old)
-        × (output_at (j + 1) ≤ length output.now) }
-    ensures { WrittenUpTo joint_size out.old at (joint_line j (matrix_in output.now j)) out.new result }
-{
-    let behind_name = put_bytes(out, at, b"joint");
-    let behind_index = put_decimal(out, behind_name, j);
-    let from = MATRIX_FLOATS * j;
-    let end = from + MATRIX_FLOATS;
-    let behind_floats = put_floats(out, behind_index, &output[from..end]);
-    out[behind_floats] = b'\n';
-    behind_floats + 1
-}
-
-// The lines of the first `count` joints.
-pub fn put_joints(out: &mut [u8], at: usize, count: usize, output: &[f32]) -> usize
-    requires { (count ≤ max_joints)
-        × (at + joint_size * count ≤ length out.old)
-        × (output_at count ≤ length output.now) }
-    ensures { WrittenUpTo (joint_size * count)
-        out.old at (joint_lines count output.now) out.new result }
-{
-    let mut behind = at;
-    for j in 0..count {
-        behind = put_joint(out, behind, j, output);
+    pub fn put_bytes(&mut self, bytes: &[u8])
+        requires { HasRoom (length bytes.now) self.old }
+        ensures { Wrote bytes.now self.old self.new }
+    {
+        let behind = self.at + bytes.len();
+        self.out[self.at..behind].copy_from_slice(bytes);
+        self.at = behind;
     }
-    behind
+
+    // A comma, and the last `count` digits of n.
+    pub fn put_field(&mut self, base: usize, count: usize, n: usize)
+        requires { (2 ≤ base) × (base ≤ 16) × HasRoom (1 + count) self.old }
+        ensures { Wrote (comma ∷ digits base count n) self.old self.new }
+    {
+        self.put_bytes(b",");
+        let behind = self.at + count;
+        put_digits(&mut self.out[self.at..behind], base, n);
+        self.at = behind;
+    }
+
+    pub fn put_decimal(&mut self, n: usize)
+        requires { HasRoom decimal_size self.old }
+        ensures { WroteUpTo decimal_size (decimal_fields (n ∷ [])) self.old self.new }
+    {
+        self.put_field(10, places(n), n);
+    }
+
+    // A comma, and the bits of x.
+    pub fn put_bits(&mut self, x: f32)
+        requires { HasRoom number_bytes self.old }
+        ensures { WroteExactly number_bytes (float_fields (x ∷ [])) self.old self.new }
+    {
+        self.put_field(16, FLOAT_DIGITS, f32_to_bits(x) as usize);
+    }
+
+    pub fn put_floats(&mut self, floats: &[f32])
+        requires { HasRoom (number_bytes * length floats.now) self.old }
+        ensures { WroteExactly (number_bytes * length floats.now)
+            (float_fields floats.now) self.old self.new }
+    {
+        for x in floats {
+            self.put_bits(*x);
+        }
+    }
+
+    pub fn put_refusal(&mut self, refusal: Refusal)
+        requires { HasRoom refusal_size self.old }
+        ensures { WroteUpTo refusal_size
+            (refused_line (number_of refusal.reason) refusal.place) self.old self.new }
+    {
+        self.put_bytes(b"refused");
+        self.put_decimal(refusal.reason.number());
+        self.put_decimal(refusal.place);
+        self.put_bytes(b"\n");
+    }
+
+    // Joint j's line, for its matrix in an output.
+    #[tactic(auto, using(crate::proofs::Laws::short_index))]
+    fn put_joint(&mut self, j: usize, output: &[f32])
+        requires { (j < max_joints) × HasRoom joint_size self.old × (output_at (j + 1) ≤ length output.now) }
+        ensures { WroteUpTo joint_size (joint_line j (matrix_in output.now j)) self.old self.new }
+    {
+        self.put_bytes(b"joint");
+        self.put_decimal(j);
+        let from = MATRIX_FLOATS * j;
+        let end = from + MATRIX_FLOATS;
+        self.put_floats(&output[from..end]);
+        self.put_bytes(b"\n");
+    }
+
+    // The lines of the first `count` joints.
+    pub fn put_joints(&mut self, count: usize, output: &[f32])
+        requires { (count ≤ max_joints) × HasRoom (joint_size * count) self.old × (output_at count ≤ length output.now) }
+        ensures { WroteUpTo (joint_size * count) (joint_lines count output.now) self.old self.new }
+    {
+        for j in 0..count {
+            self.put_joint(j, output);
+        }
+    }
 }

@@ -10,8 +10,9 @@ use lib.Dec.{ltb}
 use lib.Ieee.{Float, binary32, of_bits}
 use borrow.Author.Tests.{lt-ltb, le-ltb, le-leb}
 use Rattle.model.specs.declared.Refusal.{Refusal}
-use Rattle.model.specs.declared.TextAnswer.{TextAnswer}
-use Rattle.model.specs.declared.TextAnswer.TheVariants as text-answer
+use Rattle.model.specs.Answers.{number_of}
+use Rattle.model.specs.declared.Lengths.{Lengths}
+use Rattle.std.specs.Prelude.{Result, Ok, Err}
 use Rattle.model.specs.Plan.{max_plan}
 use Rattle.model.specs.Text.{Reading, bad, got, read_figure, floats_of, overwritten, read_words, read_floats}
 use Rattle.model.specs.Text.{accepted, refused, text_values, text_verdict, when_accepted}
@@ -25,7 +26,7 @@ use Rattle.program_text.specs.ProgramText.{reading_verdict, program_verdict, Pro
 -- ---- reading
 
 -- a text that is too long is not read
-pub long_refused : (s plan : List ℕ) (numbers : List Float) (r : TextAnswer) → max_text < length s
+pub long_refused : (s plan : List ℕ) (numbers : List Float) (r : Result Lengths Refusal) → max_text < length s
     → text_values r ≡ refused 13 max_text 0 → ProgramTextRead s plan plan numbers numbers r
 unfolding program_verdict when_accepted
 long_refused s plan numbers r h e =
@@ -45,7 +46,7 @@ room_enough s plan_room numbers_room short words-room numbers-room = go (read_fi
         let few : length ws ≤ max_plan = words_most s ws bs rest n e in
         rw (le-leb (length ws) plan_room (omega arith), le-leb (length bs) numbers_room (omega arith))
 
-pub short_read : (s plan_old plan_new : List ℕ) (numbers_old numbers_new : List Float) (r : TextAnswer)
+pub short_read : (s plan_old plan_new : List ℕ) (numbers_old numbers_new : List Float) (r : Result Lengths Refusal)
     → length s ≤ max_text → max_plan ≤ length plan_old → max_numbers ≤ length numbers_old
     → TextRead s plan_old plan_new numbers_old numbers_new r → ProgramTextRead s plan_old plan_new numbers_old numbers_new r
 unfolding program_verdict
@@ -64,39 +65,38 @@ pub record FigureRead (s plan : List ℕ) (numbers : List Float) (words count : 
   pub numbers_there : count ≤ length numbers
   pub lines : (shows : List ℕ → List Float → List ℕ) → shows (take words plan) (take count numbers) ≡ printed_by shows s
 
-module _ (s plan_old plan_new : List ℕ) (numbers_old numbers_new : List Float) (r : TextAnswer)
+module _ (s plan_old plan_new : List ℕ) (numbers_old numbers_new : List Float) (r : Result Lengths Refusal)
     (done : ProgramTextRead s plan_old plan_new numbers_old numbers_new r) where
-  pub refusal_printed : (shows : List ℕ → List Float → List ℕ) (f : Refusal) → r ≡ text-answer.Refused f
-      → refused_line f.number f.place ≡ printed_by shows s
+  pub refusal_printed : (shows : List ℕ → List Float → List ℕ) (f : Refusal) → r ≡ Err f
+      → refused_line (number_of f.reason) f.place ≡ printed_by shows s
   unfolding text_values program_verdict reading_verdict printed_by printed_from
   refusal_printed shows f e = go (ltb max_text (length s)) (read_figure s) (rw e at done.answer)
     where
       go : (long : Bool) (x : Reading)
-          → refused f.number f.place 0 ≡ cond long (refused 13 max_text 0) (reading_verdict x)
-          → refused_line f.number f.place ≡ cond long (refused_line 13 max_text) (printed_from shows x)
+          → refused (number_of f.reason) f.place 0 ≡ cond long (refused 13 max_text 0) (reading_verdict x)
+          → refused_line (number_of f.reason) f.place ≡ cond long (refused_line 13 max_text) (printed_from shows x)
       go true x v = cc
       go false (bad n) v = cc
       go false (got ws bs rest n) v = cc
 
-  pub figure_read : (words count : ℕ) → r ≡ text-answer.Accepted words count
-      → FigureRead s plan_new numbers_new words count
+  pub figure_read : (l : Lengths) → r ≡ Ok l → FigureRead s plan_new numbers_new l.words l.numbers
   unfolding text_values program_verdict reading_verdict when_accepted read_words read_floats printed_by printed_from
-  figure_read words count e = go (ltb max_text (length s)) (read_figure s) refl refl
+  figure_read lengths e = go (ltb max_text (length s)) (read_figure s) refl refl
     where
       go : (long : Bool) (x : Reading) → ltb max_text (length s) ≡ long → read_figure s ≡ x
-          → FigureRead s plan_new numbers_new words count
+          → FigureRead s plan_new numbers_new lengths.words lengths.numbers
       go true x l t =
-          let v : accepted words count ≡ refused 13 max_text 0 = rw (e, l) at done.answer in
+          let v : accepted lengths.words lengths.numbers ≡ refused 13 max_text 0 = rw (e, l) at done.answer in
           let z : ◌≡◌ {A = ℕ} 0 1 = cc in
           absurd (omega arith)
       go false (bad m) l t =
-          let v : accepted words count ≡ refused 11 m 0 = rw (e, l, t) at done.answer in
+          let v : accepted lengths.words lengths.numbers ≡ refused 11 m 0 = rw (e, l, t) at done.answer in
           let z : ◌≡◌ {A = ℕ} 0 1 = cc in
           absurd (omega arith)
       go false (got ws bs rest m) l t =
-          let v : accepted words count ≡ accepted (length ws) (length bs) = rw (e, l, t) at done.answer in
-          let n : words ≡ length ws = cc in
-          let k : count ≡ length (floats_of bs) = cc (length-map bs (of_bits binary32)) in
+          let v : accepted lengths.words lengths.numbers ≡ accepted (length ws) (length bs) = rw (e, l, t) at done.answer in
+          let n : lengths.words ≡ length ws = cc in
+          let k : lengths.numbers ≡ length (floats_of bs) = cc (length-map bs (of_bits binary32)) in
           let p : plan_new ≡ overwritten ws plan_old = rw (l, t) at done.plan in
           let q : numbers_new ≡ overwritten (floats_of bs) numbers_old = rw (l, t) at done.numbers in
           record {

@@ -1,12 +1,11 @@
-// What a list of calls shows, put into a slice of bytes from a place on.
-// Each function returns the place behind what it put.
+// What a list of calls shows, put by a writer behind what it has put.
 #![tactic(auto)]
 
-ghost use Rattle.std.specs.Prelude.{◌≡◌, ◌+◌, ◌<◌, ◌≤◌, length};
+ghost use Rattle.std.specs.Prelude.{◌<◌};
 ghost use Rattle.model.specs.Answers.{values};
 ghost use Rattle.model.specs.Plan.{max_clip_nodes};
 ghost use Rattle.model.specs.Clips.{instance_at};
-ghost use Rattle.printing.specs.Written.{WrittenUpTo, WrittenExactly};
+ghost use Rattle.printing.specs.Written.{HasRoom, WroteUpTo, WroteExactly};
 ghost use Rattle.printing.specs.Sizes.{refusal_size};
 ghost use Rattle.report.specs.Report.{wide_text, answer_line, transition_fields, player_text};
 ghost use Rattle.report.specs.Report.{told_text, told_values, parameters_line, instance_line, instance_lines};
@@ -17,9 +16,7 @@ use animation::instance_at;
 use float::f64_to_bits;
 use model::limits::{MAX_CLIP_NODES, MAX_INSTANCES, MAX_PARAMETERS, NUMBER_BYTES};
 use model::{Answer, LoopCount, Player, Transition};
-use printing::{
-    DECIMAL_SIZE, put_bits, put_bytes, put_decimal, put_field, put_floats, put_refusal,
-};
+use printing::{DECIMAL_SIZE, Writer};
 
 // Digits of a 64-bit float's bits.
 const WIDE_DIGITS: usize = 16;
@@ -33,107 +30,102 @@ pub const PLAYER_SIZE: usize = 6 + 2 * WIDE_SIZE + DECIMAL_SIZE + TRANSITION_SIZ
 
 pub const TOLD_SIZE: usize = 5 + 2 * DECIMAL_SIZE + 1;
 
-pub fn put_answer(out: &mut [u8], at: usize, answer: Answer) -> usize
-    requires { at + refusal_size ≤ length out.old }
-    ensures { WrittenUpTo refusal_size out.old at (answer_line (values answer)) out.new result }
+pub fn put_answer(w: &mut Writer<'_>, answer: Answer)
+    requires { HasRoom refusal_size w.old }
+    ensures { WroteUpTo refusal_size (answer_line (values answer)) w.old w.new }
 {
     match answer {
-        Ok(()) => put_bytes(out, at, b"ok\n"),
-        Err(refusal) => put_refusal(out, at, refusal),
+        Ok(()) => w.put_bytes(b"ok\n"),
+        Err(refusal) => w.put_refusal(refusal),
     }
 }
 
 // A comma, and the bits of x. Beside `put_bits`, since a trait that makes one of the two one-line functions is longer than both.
-fn put_wide(out: &mut [u8], at: usize, x: f64) -> usize
-    requires { at + wide_size ≤ length out.old }
-    ensures { WrittenExactly wide_size out.old at (wide_text x) out.new result }
+fn put_wide(w: &mut Writer<'_>, x: f64)
+    requires { HasRoom wide_size w.old }
+    ensures { WroteExactly wide_size (wide_text x) w.old w.new }
 {
-    put_field(out, at, 16, WIDE_DIGITS, f64_to_bits(x) as usize)
+    w.put_field(16, WIDE_DIGITS, f64_to_bits(x) as usize);
 }
 
-fn put_transition(out: &mut [u8], at: usize, transition: Transition) -> usize
-    requires { at + transition_size ≤ length out.old }
-    ensures { WrittenUpTo transition_size out.old at (transition_fields transition) out.new result }
+fn put_transition(w: &mut Writer<'_>, transition: Transition)
+    requires { HasRoom transition_size w.old }
+    ensures { WroteUpTo transition_size (transition_fields transition) w.old w.new }
 {
     match transition {
-        Transition::Idle => put_bytes(out, at, b",idle"),
+        Transition::Idle => w.put_bytes(b",idle"),
         Transition::Running {
             start,
             target,
             duration,
         } => {
-            let behind_name = put_bytes(out, at, b",running");
-            let behind_start = put_wide(out, behind_name, start);
-            let behind_target = put_decimal(out, behind_start, target);
-            put_bits(out, behind_target, duration)
+            w.put_bytes(b",running");
+            put_wide(w, start);
+            w.put_decimal(target);
+            w.put_bits(duration);
         }
     }
 }
 
-pub fn put_player(out: &mut [u8], at: usize, player: Player) -> usize
-    requires { at + player_size ≤ length out.old }
-    ensures { WrittenUpTo player_size out.old at (player_text player) out.new result }
+pub fn put_player(w: &mut Writer<'_>, player: Player)
+    requires { HasRoom player_size w.old }
+    ensures { WroteUpTo player_size (player_text player) w.old w.new }
 {
-    let behind_name = put_bytes(out, at, b"player");
-    let behind_clock = put_wide(out, behind_name, player.clock);
-    let behind_speed = put_wide(out, behind_clock, player.speed);
-    let behind_state = put_decimal(out, behind_speed, player.state);
-    let behind_transition = put_transition(out, behind_state, player.transition);
-    put_bytes(out, behind_transition, b"\n")
+    w.put_bytes(b"player");
+    put_wide(w, player.clock);
+    put_wide(w, player.speed);
+    w.put_decimal(player.state);
+    put_transition(w, player.transition);
+    w.put_bytes(b"\n");
 }
 
 // What a question that is accepted is told besides.
-pub fn put_told(out: &mut [u8], at: usize, told: Option<LoopCount>) -> usize
-    requires { at + told_size ≤ length out.old }
-    ensures { WrittenUpTo told_size out.old at (told_text (told_values told)) out.new result }
+pub fn put_told(w: &mut Writer<'_>, told: Option<LoopCount>)
+    requires { HasRoom told_size w.old }
+    ensures { WroteUpTo told_size (told_text (told_values told)) w.old w.new }
 {
     match told {
-        None => at,
+        None => {}
         Some(LoopCount { loops, rest }) => {
-            let behind_name = put_bytes(out, at, b"loops");
-            let behind_loops = put_decimal(out, behind_name, loops);
-            let behind_rest = put_decimal(out, behind_loops, rest);
-            put_bytes(out, behind_rest, b"\n")
+            w.put_bytes(b"loops");
+            w.put_decimal(loops);
+            w.put_decimal(rest);
+            w.put_bytes(b"\n");
         }
     }
 }
 
 // ---- the rest of the player
 
-pub fn put_parameters(out: &mut [u8], at: usize, parameters: &[f32; MAX_PARAMETERS]) -> usize
-    requires { at + parameters_size ≤ length out.old }
-    ensures { WrittenExactly parameters_size
-        out.old at (parameters_line parameters.now) out.new result }
+pub fn put_parameters(w: &mut Writer<'_>, parameters: &[f32; MAX_PARAMETERS])
+    requires { HasRoom parameters_size w.old }
+    ensures { WroteExactly parameters_size (parameters_line parameters.now) w.old w.new }
 {
-    let behind_name = put_bytes(out, at, b"parameters");
-    let behind_floats = put_floats(out, behind_name, parameters);
-    put_bytes(out, behind_floats, b"\n")
+    w.put_bytes(b"parameters");
+    w.put_floats(parameters);
+    w.put_bytes(b"\n");
 }
 
 #[tactic(auto, using(printing::proofs::Laws::short_index))]
-fn put_instance(out: &mut [u8], at: usize, n: usize, instances: &[f32; MAX_INSTANCES]) -> usize
-    requires { (n < max_clip_nodes) × (at + instance_size ≤ length out.old) }
-    ensures { WrittenUpTo instance_size
-        out.old at (instance_line n (instance_at instances.now n)) out.new result }
+fn put_instance(w: &mut Writer<'_>, n: usize, instances: &[f32; MAX_INSTANCES])
+    requires { (n < max_clip_nodes) × HasRoom instance_size w.old }
+    ensures { WroteUpTo instance_size (instance_line n (instance_at instances.now n)) w.old w.new }
 {
     let instance = instance_at(instances, n);
-    let behind_name = put_bytes(out, at, b"instance");
-    let behind_number = put_decimal(out, behind_name, n);
-    let behind_start = put_bits(out, behind_number, instance.start);
-    let behind_rate = put_bits(out, behind_start, instance.rate);
-    let behind_offset = put_bits(out, behind_rate, instance.offset);
-    put_bytes(out, behind_offset, b"\n")
+    w.put_bytes(b"instance");
+    w.put_decimal(n);
+    w.put_bits(instance.start);
+    w.put_bits(instance.rate);
+    w.put_bits(instance.offset);
+    w.put_bytes(b"\n");
 }
 
 // Those of all clip nodes, used or not.
-pub fn put_instances(out: &mut [u8], at: usize, instances: &[f32; MAX_INSTANCES]) -> usize
-    requires { at + instances_size ≤ length out.old }
-    ensures { WrittenUpTo instances_size
-        out.old at (instance_lines max_clip_nodes instances.now) out.new result }
+pub fn put_instances(w: &mut Writer<'_>, instances: &[f32; MAX_INSTANCES])
+    requires { HasRoom instances_size w.old }
+    ensures { WroteUpTo instances_size (instance_lines max_clip_nodes instances.now) w.old w.new }
 {
-    let mut behind = at;
     for n in 0..MAX_CLIP_NODES {
-        behind = put_instance(out, behind, n, instances);
+        put_instance(w, n, instances);
     }
-    behind
 }

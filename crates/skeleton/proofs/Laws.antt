@@ -190,33 +190,32 @@ module _ (kind : FrameKind) (block : List Float) (first : ℕ) where
         ea ∙ rw (eo, o, lanes i (omega arith), add-one i) (own_more kind pose_of ms first i old len);
   }
 
--- ---- products. Invariant: those of the first i are done, and the own matrices of the k others stand behind them
+-- ---- products. Invariant: those of the joints before j are done, and the own matrices of the k others stand behind them
 
-pub record Through (plan : List ℕ) (first count : ℕ) (before after : List Float) (i : ℕ) : Type 0 where
+pub record Through (plan : List ℕ) (first count : ℕ) (before after : List Float) (j : ℕ) : Type 0 where
   pub done : (kind : FrameKind) (pose_of : ℕ → Pose) (old : List Float) → before ≡ own_behind kind pose_of (joint_matrices kind plan pose_of first) first count old
-      → (k : ℕ) → i + k ≡ count → after ≡ own_behind kind pose_of (joint_matrices kind plan pose_of (first + i)) (first + i) k old
+      → (k : ℕ) → j + k ≡ first + count → after ≡ own_behind kind pose_of (joint_matrices kind plan pose_of j) j k old
 
 module _ (plan : List ℕ) (first count : ℕ) where
-  pub through_none : (before : List Float) → Through plan first count before before 0
+  pub through_none : (before : List Float) → Through plan first count before before first
   through_none before = record {
     done = λ kind pose_of old e k all.
         let c : k ≡ count = omega (arith, all) in
-        rw (add-zero first, c) e;
+        rw c e;
   }
 
-  pub through_next : {i : ℕ} {before output after : List Float} {base own : Matrix4} → Passes plan → first + i < joint_count plan → Through plan first count before output i
-      → own ≡ matrix_from (drop (output_at (first + i)) output) → base ≡ parent_in plan output (first + i) → after ≡ stored output (output_at (first + i)) (floats (product base own))
-      → Through plan first count before after (i + 1)
-  through_next {i} ok there t eo eb ea = record {
+  pub through_next : {j : ℕ} {before output after : List Float} {base own : Matrix4} → Passes plan → j < joint_count plan → Through plan first count before output j
+      → own ≡ matrix_from (drop (output_at j) output) → base ≡ parent_in plan output j → after ≡ stored output (output_at j) (floats (product base own))
+      → Through plan first count before after (j + 1)
+  through_next {j} ok there t eo eb ea = record {
     done = λ kind pose_of old e k all.
         let o = t.done kind pose_of old e (suc k) (omega (arith, all)) in
-        let s : first + (i + 1) ≡ first + i + 1 = omega arith in
-        ea ∙ rw (eo, eb, o, s) (joint_more kind plan pose_of (first + i) k old (parent_earlier plan ok.numbers ok.passed (first + i) there));
+        ea ∙ rw (eo, eb, o) (joint_more kind plan pose_of j k old (parent_earlier plan ok.numbers ok.passed j there));
   }
 
-  pub through_all : {before after : List Float} → Through plan first count before after count → Multiplied plan first count before after
+  pub through_all : {before after : List Float} → Through plan first count before after (first + count) → Multiplied plan first count before after
   unfolding joints_written own_behind own_matrices flat
-  through_all t = record { product = λ kind pose_of old e. rw (add-zero (first + count)) at (t.done kind pose_of old e 0 (add-zero count)) }
+  through_all t = record { product = λ kind pose_of old e. rw (add-zero (first + count)) at (t.done kind pose_of old e 0 (add-zero (first + count))) }
 
 -- both loops, one after the other
 pub own_then_product : {kind : FrameKind} {plan : List ℕ} {block : List Float} {first count : ℕ} {before middle after : List Float}

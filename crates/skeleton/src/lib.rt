@@ -1,18 +1,18 @@
 // Ports skeleton.rs: the joints' global matrices, written into the caller's buffer, for both kinds of frame.
 #![tactic(auto)]
 
-ghost use Rattle.std.specs.Prelude.{◌≡◌, suc, ◌+◌, ◌<◌, ◌≤◌, leb, length, drop};
+ghost use Rattle.std.specs.Prelude.{◌≡◌, suc, ◌+◌, ◌<◌, ◌≤◌, length, drop};
 ghost use Rattle.model.specs.Rotations.{identity_matrix, floats, product};
 ghost use Rattle.model.specs.Pose.{to_matrix};
 ghost use Rattle.model.specs.Text.{max_word};
-ghost use Rattle.model.specs.Plan.{max_joints, joint_count, parent_at, parent, is_root, output_at};
+ghost use Rattle.model.specs.Plan.{max_joints, joint_count, output_at};
 ghost use Rattle.model.specs.Skeleton.{upper_transposed, own_matrix};
-ghost use Rattle.layout.specs.Layout.{Passes};
 ghost use Rattle.lanes.specs.Lanes.{block_size};
 ghost use Rattle.skeleton.specs.Buffer.{row_from, matrix_from, row_floats, stored, parent_in, OwnMatrices, Multiplied, GlobalPoses};
 
-use lanes::{BLOCK_FLOATS, lane};
+use lanes::{BLOCK_FLOATS, Joints, lane};
 use layout::parent;
+use layout::passed::Plan;
 use math::product_row;
 use model::limits::MATRIX_FLOATS;
 use model::{FrameKind, Matrix4, Pose, Row};
@@ -61,12 +61,8 @@ fn row_at(buffer: &[f32], at: usize) -> Row
     requires { at + 4 ≤ length buffer.now }
     ensures { result ≡ row_from (drop at buffer.now) }
 {
-    Row {
-        c0: buffer[at],
-        c1: buffer[at + 1],
-        c2: buffer[at + 2],
-        c3: buffer[at + 3],
-    }
+    let [c0, c1, c2, c3] = *buffer[at..at + 4].as_array::<4>().unwrap();
+    Row { c0, c1, c2, c3 }
 }
 
 fn matrix_at(buffer: &[f32], at: usize) -> Matrix4
@@ -81,6 +77,7 @@ fn matrix_at(buffer: &[f32], at: usize) -> Matrix4
     }
 }
 
+// Four stores: by `copy_from_slice` a frame of 64 joints and 3 nodes took 6.1 µs in place of 4.5.
 fn set_row(buffer: &mut [f32], at: usize, r: Row)
     requires { at + 4 ≤ length buffer.old }
     ensures { buffer.new ≡ stored buffer.old at (row_floats r) }
@@ -95,25 +92,18 @@ fn set_matrix(buffer: &mut [f32], at: usize, m: Matrix4)
     requires { at + output_at 1 ≤ length buffer.old }
     ensures { buffer.new ≡ stored buffer.old at (floats m) }
 {
-    let r0 = m.r0;
-    let r1 = m.r1;
-    let r2 = m.r2;
-    let r3 = m.r3;
-    set_row(buffer, at, r0);
-    set_row(buffer, at + 4, r1);
-    set_row(buffer, at + 8, r2);
-    set_row(buffer, at + 12, r3);
+    set_row(buffer, at, m.r0);
+    set_row(buffer, at + 4, m.r1);
+    set_row(buffer, at + 8, m.r2);
+    set_row(buffer, at + 12, m.r3);
 }
 
 // The parent's matrix is read back from the buffer: parents come first. A parent that is no earlier joint is a root's.
-fn parent_matrix(plan: &[u16], buffer: &[f32], j: usize) -> Matrix4
-    requires { (j ≤ max_word)
-        × (parent_at j < length plan.now)
-        × (is_root plan.now j ≡ leb j (parent plan.now j))
-        × (output_at j ≤ length buffer.now) }
-    ensures { result ≡ parent_in plan.now buffer.now j }
+fn parent_matrix(plan: &Plan<'_>, buffer: &[f32], j: usize) -> Matrix4
+    requires { (j < joint_count plan.now.words.now) × (output_at j ≤ length buffer.now) }
+    ensures { result ≡ parent_in plan.now.words.now buffer.now j }
 {
-    let p = parent(plan, j);
+    let p = parent(plan.words, j);
     if p >= j {
         return identity_matrix();
     }
@@ -124,7 +114,6 @@ fn parent_matrix(plan: &[u16], buffer: &[f32], j: usize) -> Matrix4
 fn upper_transposed(m: Matrix4) -> Matrix4
     ensures { result ≡ upper_transposed m }
 {
-    let r3 = m.r3;
     Matrix4 {
         r0: Row {
             c0: m.r0.c0,
@@ -144,7 +133,7 @@ fn upper_transposed(m: Matrix4) -> Matrix4
             c2: m.r2.c2,
             c3: m.r2.c3,
         },
-        r3: r3,
+        r3: m.r3,
     }
 }
 
@@ -187,56 +176,48 @@ pub fn calculate_root_pose(kind: FrameKind, pose: Pose, output: &mut [f32])
 fn set_own_matrices(
     kind: FrameKind,
     block: &[f32; BLOCK_FLOATS],
-    first: usize,
-    count: usize,
+    joints: Joints,
     output: &mut [f32],
 )
-    requires { (count ≤ block_size)
-        × (first + count ≤ max_joints)
-        × (output_at (first + count) ≤ length output.old) }
-    ensures { OwnMatrices kind block.now first count output.old output.new }
+    requires { (joints.count ≤ block_size)
+        × (joints.first + joints.count ≤ max_joints)
+        × (output_at (joints.first + joints.count) ≤ length output.old) }
+    ensures { OwnMatrices kind block.now joints.first joints.count output.old output.new }
 {
-    let mut i = 0;
-    while i < count {
+    for i in 0..joints.count {
         let own = own_matrix(kind, to_matrix(lane(block, i)));
-        set_matrix(output, output_at(first + i), own);
-        i += 1;
+        set_matrix(output, output_at(joints.first + i), own);
     }
 }
 
-// The own matrices of the `count` joints from `first` on become their global ones, parents first.
-fn multiply_by_parents(plan: &[u16], first: usize, count: usize, output: &mut [f32])
-    requires { Passes plan.now
-        × (first + count ≤ joint_count plan.now)
-        × (output_at (first + count) ≤ length output.old) }
-    ensures { Multiplied plan.now first count output.old output.new }
+// The own matrices of a row of joints become their global ones, parents first.
+fn multiply_by_parents(plan: &Plan<'_>, joints: Joints, output: &mut [f32])
+    requires { (joints.first + joints.count ≤ joint_count plan.now.words.now)
+        × (output_at (joints.first + joints.count) ≤ length output.old) }
+    ensures { Multiplied plan.now.words.now joints.first joints.count output.old output.new }
 {
-    let mut i = 0;
-    while i < count {
-        let j = first + i;
+    for j in joints.first..joints.first + joints.count {
         let own = matrix_at(output, output_at(j));
         let base = parent_matrix(plan, output, j);
         set_joint(output, j, base, own);
-        i += 1;
     }
 }
 
-// The matrices of the `count` joints from `first` on, whose poses are the block's lanes. In two loops, since the products
-// are faster where own matrices are read as rows.
+// The matrices of a row of joints, whose poses are the block's lanes. In two loops, since the products are faster where
+// own matrices are read as rows.
 pub fn calculate_global_poses(
     kind: FrameKind,
-    plan: &[u16],
+    plan: &Plan<'_>,
     block: &[f32; BLOCK_FLOATS],
-    first: usize,
-    count: usize,
+    joints: Joints,
     output: &mut [f32],
 )
-    requires { Passes plan.now
-        × (count ≤ block_size)
-        × (first + count ≤ joint_count plan.now)
-        × (output_at (first + count) ≤ length output.old) }
-    ensures { GlobalPoses kind plan.now block.now first count output.old output.new }
+    requires { (joints.count ≤ block_size)
+        × (joints.first + joints.count ≤ joint_count plan.now.words.now)
+        × (output_at (joints.first + joints.count) ≤ length output.old) }
+    ensures { GlobalPoses kind plan.now.words.now block.now joints.first joints.count
+        output.old output.new }
 {
-    set_own_matrices(kind, block, first, count, output);
-    multiply_by_parents(plan, first, count, output);
+    set_own_matrices(kind, block, joints, output);
+    multiply_by_parents(plan, joints, output);
 }

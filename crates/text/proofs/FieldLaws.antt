@@ -1,23 +1,22 @@
 -- Laws of the kinds of line and of the reading of one, over plain values. Assumes nothing.
 use Prim.Native.Nat.{ℕ, zero, suc, ◌+◌, ◌-◌, ◌≤◌, ◌<◌}
-use native.Mathlib.Nat.{sub_self, sub-zero}
+use native.Mathlib.Nat.{sub_self}
 use native.Mathlib.Numerals.{add-one}
 use native.Mathlib.Omega.{arith}
 use mathlib.Core.Path.{◌≡◌, refl, sym, ap, subst, ◌∙◌}
 use mathlib.Core.Bool.{Bool, true, false, cond}
 use mathlib.Core.List.{List, [], ◌∷◌}
 use lib.Dec.{T, leb, eqb, leb→le}
-use lib.ListN.{length, get_or, take, drop, drop_of_length-le, set, replicate, length-drop, get_or-replicate}
-use lib.Seq.{get_or-take, get_or-drop, drop-nil, drop-cons, drop-length, drop-drop}
+use lib.ListN.{length, get_or, drop, drop_of_length-le, set, length-drop}
+use lib.Seq.{drop-nil, drop-cons, drop-drop}
 use borrow.Author.Tests.{eq-eqb, ne_eqb}
 use Rattle.model.specs.declared.LineKind.{LineKind}
 use Rattle.model.specs.declared.LineKind.TheVariants.{Figure, Joint, Clip, State, Node, Go, Pose}
 use Rattle.model.specs.declared.FieldForm.{FieldForm}
-use Rattle.model.specs.declared.FieldForm.TheVariants.{Decimal, Bits}
-use Rattle.model.specs.Text.{Field, front, comma, line_feed, digit_count, numeral, base_of, is_field, max_word, none, field, name, forms, field_count, form_of}
+use Rattle.model.specs.Text.{Field, front, comma, line_feed, digit_count, numeral, base_of, is_field, none, field, name, forms, field_count}
 use Rattle.model.specs.Text.{Line, malformed, line, with_field, field_then, field_in, fields_in, begins, line_in}
 use Rattle.fields.proofs.Bytes.{front_at, inside, positive, positive_at}
-use Rattle.std.specs.Prelude.{Option, Some, None}
+use Rattle.std.specs.Prelude.{Some, None}
 use Rattle.text.specs.LineFound.{max_fields, no_values, found_end, found_values, LineFound}
 use Rattle.text.specs.LineReading.{comma_field, Stepped, in_array, line_from}
 

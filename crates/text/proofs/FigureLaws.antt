@@ -3,7 +3,7 @@ use Prim.Native.Nat.{ℕ, suc, ◌+◌, ◌*◌, ◌≤◌, ◌<◌, ◌^◌}
 use native.Mathlib.Nat.{mul-le-mul}
 use native.Mathlib.Numerals.{add-one}
 use native.Mathlib.Omega.{arith}
-use mathlib.Core.Path.{◌≡◌, refl, sym, subst}
+use mathlib.Core.Path.{◌≡◌, refl, sym}
 use mathlib.Core.List.{List, [], ◌∷◌, ◌++◌}
 use lib.Ieee.{Float}
 use lib.ListN.{length, get_or, drop, length-drop, length-append, drop_of_length-le, get_or-append}
@@ -13,11 +13,10 @@ use Rattle.model.specs.declared.LineKind.TheVariants.{Clip, State, Node, Go}
 use Rattle.model.specs.Text.{max_word, front, forms, malformed, line_in, words_in, bits_in, Reading, bad, got, prefixed, and_then, times, from_line, read_line, from_state, read_state, read_end, read_words, samples_in}
 use Rattle.model.specs.Plan.{max_joints, max_clips, max_samples, clip_words, total}
 use Rattle.model.proofs.Laws.Totals.{total_same}
-use Rattle.std.specs.Prelude.{Option, None, Result, Ok, Err, IfOk}
+use Rattle.std.specs.Prelude.{Ok, Err}
 use Rattle.text.specs.declared.put.Progress.{Progress}
 use Rattle.text.specs.declared.put.Malformed.{Malformed}
-use Rattle.text.specs.declared.figure.Clips.{Clips}
-use Rattle.text.specs.Figures.{sampled, progress_of, read_poses, read_motion}
+use Rattle.text.specs.Figures.{sampled, read_poses, read_motion}
 use Rattle.text.specs.Steps.{InText, behind_line, with_word, LineAt, Put, Step, ReadAs}
 use Rattle.text.proofs.Laws.{put_more, put_word, put_behind, follows, goes, stops, moved_nothing}
 use Rattle.text.proofs.LineLaws.{next_of, line_read, line_bytes, line_values}

@@ -2,7 +2,7 @@
 use Prim.Native.Nat.{ℕ, zero, suc, ◌+◌, ◌-◌, ◌*◌, ◌≤◌, ◌<◌, ◌^◌}
 use native.Mathlib.Numerals.{add-one}
 use native.Mathlib.Omega.{arith}
-use mathlib.Core.Path.{◌≡◌, refl, sym, ap, subst, ◌∙◌}
+use mathlib.Core.Path.{◌≡◌, refl, sym, ap, ◌∙◌}
 use mathlib.Core.Bool.{Bool, true, false}
 use mathlib.Core.List.{List, [], ◌∷◌, ◌++◌}
 use lib.Ieee.{Float}
@@ -13,10 +13,10 @@ use Rattle.std.proofs.lemmas.List.{get_or_default}
 use Rattle.model.specs.declared.LineKind.{LineKind}
 use Rattle.model.specs.declared.FieldForm.{FieldForm}
 use Rattle.model.specs.declared.FieldForm.TheVariants.{Decimal, Bits}
-use Rattle.model.specs.Text.{front, max_word, forms, field_count, form_of, Line, malformed, line, line_in, words_in, bits_in, bad, got, from_line, read_line, floats_of}
+use Rattle.model.specs.Text.{front, max_word, forms, field_count, Line, malformed, line, line_in, words_in, bits_in, got, from_line, read_line, floats_of}
 use Rattle.model.specs.Laws.Text.{Bounded}
 use Rattle.model.proofs.Laws.Text.{LineLaw, line_law}
-use Rattle.std.specs.Prelude.{Option, Some, None, Result, Ok, Err}
+use Rattle.std.specs.Prelude.{Option, Some, None, Ok, Err}
 use Rattle.text.specs.declared.put.Progress.{Progress}
 use Rattle.text.specs.declared.put.Malformed.{Malformed}
 use Rattle.text.specs.LineFound.{max_fields, no_values, found_end, found_values, LineFound}
@@ -207,4 +207,3 @@ module _ {kind : LineKind} {text values : List ℕ} {r : Progress} {at : ℕ} (l
           line = put.1.1;
           put = put_behind r q at put.0;
         }
-

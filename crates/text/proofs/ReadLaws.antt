@@ -2,7 +2,7 @@
 use Prim.Native.Nat.{ℕ, ◌≤◌, ◌<◌}
 use native.Mathlib.Nat.{zero-add}
 use native.Mathlib.Omega.{arith}
-use mathlib.Core.Path.{◌≡◌, refl, subst, ◌∙◌}
+use mathlib.Core.Path.{◌≡◌, refl, ◌∙◌}
 use mathlib.Core.Bool.{false, ◌&&◌}
 use mathlib.Core.List.{List, [], ◌∷◌, ◌++◌}
 use lib.Dec.{leb}
@@ -11,10 +11,9 @@ use lib.ListN.{length, get_or, drop, length-map}
 use borrow.Author.Tests.{le-leb, lt-leb}
 use Rattle.model.specs.declared.LineKind.TheVariants.{Figure, Joint}
 use Rattle.model.specs.declared.Refusal.{Refusal}
-use Rattle.model.specs.declared.Lengths.{Lengths}
 use Rattle.model.specs.declared.Reason.{Reason}
 use Rattle.model.specs.declared.Reason.TheVariants.{Line, Room}
-use Rattle.std.specs.Prelude.{Result, Ok, Err}
+use Rattle.std.specs.Prelude.{Ok, Err}
 use Rattle.model.specs.Plan.{max_joints, max_clips, word, joint_count, clip_count, state_count}
 use Rattle.model.specs.Promises.{TextRead}
 use Rattle.model.specs.Text.{forms, Reading, bad, got, and_then, times, read_line, read_figure, text_values, text_verdict, accepted, refused, floats_of, overwritten, read_words, read_floats, when_accepted}

@@ -33,47 +33,49 @@ fn name(kind: LineKind) -> &'static [u8]
     }
 }
 
+// A count's decimal has the count's upper limit.
+const JOINTS: FieldForm = Decimal {
+    limit: MAX_JOINTS as u16,
+};
+
+const CLIPS: FieldForm = Decimal {
+    limit: MAX_CLIPS as u16,
+};
+
+const PARAMETERS: FieldForm = Decimal {
+    limit: MAX_PARAMETERS as u16,
+};
+
+const STATES: FieldForm = Decimal {
+    limit: MAX_STATES as u16,
+};
+
+const SAMPLES: FieldForm = Decimal {
+    limit: MAX_SAMPLES as u16,
+};
+
+const NODES: FieldForm = Decimal {
+    limit: MAX_NODES as u16,
+};
+
+const TRANSITIONS: FieldForm = Decimal {
+    limit: MAX_TRANSITIONS as u16,
+};
+
 const WORD: FieldForm = Decimal {
     limit: MAX_WORD as u16,
 };
 
-// What the fields of a line hold, in their order. A count's decimal has the count's upper limit.
+// What the fields of a line hold, in their order.
 #[tactic(auto, unfolding(model::specs::Text::forms))]
 pub fn forms(kind: LineKind) -> &'static [FieldForm]
     ensures { result.now ≡ forms kind }
 {
     match kind {
-        LineKind::Figure => &[
-            Decimal {
-                limit: MAX_JOINTS as u16,
-            },
-            Decimal {
-                limit: MAX_CLIPS as u16,
-            },
-            Decimal {
-                limit: MAX_PARAMETERS as u16,
-            },
-            Decimal {
-                limit: MAX_STATES as u16,
-            },
-            WORD,
-        ],
+        LineKind::Figure => &[JOINTS, CLIPS, PARAMETERS, STATES, WORD],
         LineKind::Joint => &[WORD],
-        LineKind::Clip => &[
-            Decimal {
-                limit: MAX_SAMPLES as u16,
-            },
-            Bits,
-            WORD,
-        ],
-        LineKind::State => &[
-            Decimal {
-                limit: MAX_NODES as u16,
-            },
-            Decimal {
-                limit: MAX_TRANSITIONS as u16,
-            },
-        ],
+        LineKind::Clip => &[SAMPLES, Bits, WORD],
+        LineKind::State => &[NODES, TRANSITIONS],
         LineKind::Node => &[WORD; 4],
         LineKind::Go => &[WORD, WORD, WORD, Bits, Bits],
         LineKind::Pose => &[Bits; MAX_FIELDS],
@@ -125,8 +127,7 @@ fn fields_at(
     let mut cursor = Fields { text, at };
     let mut read = [0; MAX_FIELDS];
     for (k, form) in forms(kind).iter().enumerate() {
-        let value = cursor.next(*form)?;
-        read[k] = value;
+        read[k] = cursor.next(*form)?;
     }
     let end = cursor.at;
     if byte(text, end) != b'\n' {

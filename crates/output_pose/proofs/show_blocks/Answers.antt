@@ -2,7 +2,6 @@
 use native.Mathlib.Omega.{arith}
 use mathlib.Core.Path.{refl}
 use Rattle.layout.proofs.Laws.{joints_found}
-use Rattle.blend_tree.proofs.NodeLaws.{passes}
 use Rattle.output_pose.proofs.Laws.{through_none, through_next, through_all}
 use Rattle.output_pose.proofs.show_blocks.Goals as goal
 
@@ -13,7 +12,7 @@ pub calculate_global_poses-requires : goal.calculate_global_poses-requires
 calculate_global_poses-requires c =
     let at = c.args.source.now.state in
     let found = joints_found _ at.figure.plan.laid.found in
-    (passes at, omega arith, omega (arith, found), omega (arith, found, c.loop-first.invariant.kept, c.requires.1))
+    (omega arith, omega (arith, found), omega (arith, found, c.loop-first.invariant.kept, c.requires.1))
 
 pub loop-first-preserved : goal.loop-first-preserved
 loop-first-preserved c =

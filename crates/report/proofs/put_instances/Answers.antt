@@ -6,9 +6,9 @@ use Rattle.report.proofs.put_instances.Goals as goal
 
 pub loop-n-init : goal.loop-n-init
 unfolding joined
-loop-n-init c = (nothing_written _ _, omega arith)
+loop-n-init c = (nothing_written _, omega arith)
 
 pub loop-n-preserved : goal.loop-n-preserved
 loop-n-preserved c =
     let l = c.loop-n in
-    (next_line l.n _ l.invariant.0 c.put_instance-behind.ensures.0, omega arith)
+    (next_line l.n _ l.invariant.0 c.put_instance.ensures.0, omega arith)

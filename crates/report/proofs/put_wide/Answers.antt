@@ -6,4 +6,4 @@ use Rattle.report.proofs.put_wide.Goals as goal
 
 pub returns : goal.returns
 returns c =
-    (wide_written _ _ (cc) c.put_field.ensures, omega (arith, length_digits, c.put_field.ensures.ended))
+    (wide_written _ _ (cc) c.put_field.ensures, omega (arith, length_digits, c.put_field.ensures.moved))

@@ -6,11 +6,7 @@ use Rattle.skeleton.proofs.calculate_global_poses.Goals as goal
 
 pub set_own_matrices-requires : goal.set_own_matrices-requires
 set_own_matrices-requires c =
-    (c.requires.1, omega (arith, few_joints _ _ c.requires.0.passed), c.requires.3)
-
-pub multiply_by_parents-requires : goal.multiply_by_parents-requires
-multiply_by_parents-requires c =
-    (c.requires.0, c.requires.2, omega (arith, c.set_own_matrices.auto.output, c.requires.3))
+    (c.requires.0, omega (arith, few_joints _ _ c.args.plan.now.laid.passed), c.requires.2)
 
 pub returns : goal.returns
 returns c =

@@ -1,5 +1,4 @@
 -- The first pass is lent nothing to write in.
-use Rattle.std.proofs.Common.{◌≡◌, ◌++◌, arith}
 use Rattle.std.proofs.lemmas.Result.{err_from_is_err_and}
 use Rattle.model.specs.Text.{read_figure}
 use Rattle.text.specs.Figures.{Judged}

@@ -1,6 +1,5 @@
-use Rattle.std.proofs.Common.{◌≡◌, ◌+◌, refl, ◌∙◌, Some, None, arith}
+use Rattle.std.proofs.Common.{◌≡◌, ◌+◌, refl, Some, None, arith}
 use Rattle.std.proofs.lemmas.Result.{err_from_is_err_and}
-use Rattle.text.specs.declared.put.Malformed.{Malformed}
 use Rattle.text.proofs.LineLaws.{line_at, line_bad}
 use Rattle.text.proofs.put.behind_line.Goals as goal
 

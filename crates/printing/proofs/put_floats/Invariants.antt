@@ -1,9 +1,0 @@
--- `printing::put_floats` meets its contract: after k turns the first k floats are written. Assumes nothing.
-use Rattle.std.proofs.Common.{◌*◌, take}
-use Rattle.model.specs.Program.{number_bytes}
-use Rattle.printing.specs.Written.{WrittenExactly, float_fields}
-use Rattle.printing.proofs.put_floats.Given as goal
-
-abbrev pub invariant-loop-x : goal.invariant-loop-x
-invariant-loop-x l =
-    WrittenExactly (number_bytes * l.x-index) l.initial.out l.at (float_fields (take l.x-index l.floats)) l.out l.behind
