@@ -9,7 +9,7 @@ ghost use Rattle.blend_tree.specs.Slots.{Slots};
 use crate::{SLOTS, StateAt};
 use animation::{duration, instance_at, set_instance, set_playback_rate};
 use layout::passed::State;
-use layout::{Kind, rate};
+use layout::{Kind, Node, rate};
 use model::limits::{MAX_INSTANCES, MAX_PARAMETERS};
 
 // The instance of node i, if it is a clip node.
@@ -121,22 +121,17 @@ impl<'a> StateAt<'a> {
         if !self.is_touched(i) {
             return;
         }
-        let words = self.node(i);
-        let length_a = self.node_length(words.a);
-        let length_b = self.node_length(words.b);
-        let target = target_length(parameters[words.parameter], length_a, length_b);
-        set_rate(
-            instances,
-            slots[words.a] as usize,
-            self.time,
-            length_a / target,
-        );
-        set_rate(
-            instances,
-            slots[words.b] as usize,
-            self.time,
-            length_b / target,
-        );
+        let Node {
+            a,
+            b,
+            parameter,
+            ..
+        } = self.node(i);
+        let length_a = self.node_length(a);
+        let length_b = self.node_length(b);
+        let target = target_length(parameters[parameter], length_a, length_b);
+        set_rate(instances, slots[a] as usize, self.time, length_a / target);
+        set_rate(instances, slots[b] as usize, self.time, length_b / target);
     }
 
     // All its nodes, in order, with its slots, which its poses need too.
