@@ -10,12 +10,10 @@ use program::{Question, answer};
 fn main(rt: HostRuntime) {
     // A byte more, so that a longer text is noticed.
     let mut text = [0u8; MAX_TEXT + 1];
-    let input = read_input(&mut rt.stdin(), &mut text);
-    if input.failed {
+    let Ok(count) = read_input(&mut rt.stdin(), &mut text) else {
         let _ = eprintln!(rt; "gentianlathe: standard input cannot be read");
         return;
-    }
-    let count = input.count;
+    };
     let mut out = [0u8; MAX_PRINTED];
     let length = answer(Question::Frame, &text[..count], &mut out);
     if rt.write_all(&out[..length]).is_err() {

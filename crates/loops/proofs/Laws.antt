@@ -57,10 +57,10 @@ module _ (plan : List ℕ) (numbers : List Float) (p : Player) (s n : ℕ) (time
 
   -- ---- refusals 1 to 9
 
-  pub check_handed : (r : Result LoopCount Refusal) (e : Refusal) → IsErrAnd r (λ y. y ≡ e) → {A : Type 0} → values {A = A} (Err e) ≡ check plan (length numbers) → LoopsCounted plan numbers p s n time r
+  pub check_handed : (r : Result LoopCount Refusal) (e : Refusal) → IsErrAnd r (λ y. y ≡ e) → (A : Type 0) → values {A = A} (Err e) ≡ check plan (length numbers) → LoopsCounted plan numbers p s n time r
   unfolding values loops_verdict ◌then◌
-  check_handed (Ok c) e exit told = absurd exit
-  check_handed (Err y) e exit told = refused_counted (Err y) y refl (rw (← told, exit))
+  check_handed (Ok c) e exit A told = absurd exit
+  check_handed (Err y) e exit A told = refused_counted (Err y) y refl (rw (← told, exit))
 
   module _ (l : Layout) (passed : check plan (length numbers) ≡ accepted) (found : l ≡ layout_of plan) {has : Bool} (told : has ≡ has_states l.states p.state p.transition) where
     pub player_refused : has ≡ false → (r : Result LoopCount Refusal) (e : Refusal) → r ≡ Err e → refused (number_of e.reason) e.place 0 ≡ refused 9 0 0 → LoopsCounted plan numbers p s n time r

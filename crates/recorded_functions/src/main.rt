@@ -5,13 +5,12 @@
 ghost use Rattle.std.specs.Prelude.{◌≤◌, length};
 ghost use Rattle.recorded_functions.specs.Sizes.{max_operands};
 
-mod line;
 mod words;
 
-use fields::{Field, read_field};
-use line::Line;
+use fields::read_field;
 use model::FieldForm;
 use model::limits::{MATRIX_FLOATS as MATRIX, NUMBER_BYTES, POSE_FLOATS as POSE};
+use printing::Writer;
 use std::io::{Read, Write};
 use std::slice::Iter;
 use test_io::read_front;
@@ -22,6 +21,9 @@ const MAX_OPERANDS: usize = 2 * MATRIX;
 
 // The longest row behind its letter, with its LF.
 const ROW_SIZE: usize = NUMBER_BYTES * MAX_OPERANDS + 1;
+
+// The longest answer, which is a matrix, with its LF.
+const LINE_SIZE: usize = NUMBER_BYTES * MATRIX + 1;
 
 // Why no row is answered any more.
 #[derive(Drop)]
@@ -41,10 +43,8 @@ fn parse(row: &[u8]) -> Option<[u32; MAX_OPERANDS]> {
         let [b',', digits @ ..] = operand else {
             return None;
         };
-        let Field::Value { value, end: _ } = read_field(digits, 0, FieldForm::Bits) else {
-            return None;
-        };
-        *word = u32::try_from(value).ok()?;
+        let field = read_field(digits, 0, FieldForm::Bits)?;
+        *word = u32::try_from(field.value).ok()?;
     }
     Some(words)
 }
@@ -71,9 +71,14 @@ impl<R: Read, W: Write> Rows<R, W> {
             |_| End::Malformed,
         )?;
         let words = parse(row).ok_or(End::Malformed)?;
-        let mut line = Line::new();
+        // The LF behind the last word is there from the beginning, and the first word's comma is left out.
+        let mut bytes = [b'\n'; LINE_SIZE];
+        let mut line = Writer::new(&mut bytes);
         call(&mut words.iter()).put(&mut line);
-        line.print(&mut self.output).map_err(|_| End::Output)
+        let end = line.at + 1;
+        self.output
+            .write_all(&bytes[1..end])
+            .map_err(|_| End::Output)
     }
 
     // A row's letter picks the function that its operands go to.

@@ -1,11 +1,19 @@
 // What operands and answers are made of, as words.
-ghost use Rattle.std.specs.Prelude.{◌≡◌, ◌+◌, ◌≤◌, ℕ};
+ghost use Rattle.std.specs.Prelude.{◌*◌, ◌≤◌, ℕ};
 ghost use Rattle.std.proofs.Common.{rules};
+ghost use Rattle.model.specs.Program.{number_bytes};
+ghost use Rattle.printing.specs.Written.{HasRoom};
+ghost use Rattle.recorded_functions.specs.Moved.{Moved};
 ghost use Rattle.recorded_functions.specs.Sizes.{max_words};
 
-use crate::line::Line;
+use model::limits::NUMBER_BYTES;
 use model::{Matrix4, Pose, Quaternion, Row, Vector3};
+use printing::Writer;
 use std::slice::Iter;
+
+const HEXADECIMAL: usize = 16;
+
+const WORD_DIGITS: usize = NUMBER_BYTES - 1;
 
 // A struct is its fields in order.
 pub trait Words: Sized {
@@ -15,10 +23,10 @@ pub trait Words: Sized {
     // The next value of a row's operands.
     fn take(words: &mut Iter<'_, u32>) -> Self;
 
-    // Puts a value into an answer's line, behind what is there.
-    fn put(self, line: &mut Line)
-        requires { line.old.count + word_count ≤ max_words }
-        ensures { line.new.count ≡ line.old.count + word_count };
+    // Puts a value into an answer's line: a comma and eight digits for each word.
+    fn put(self, line: &mut Writer<'_>)
+        requires { HasRoom (number_bytes * word_count) line.old }
+        ensures { Moved (number_bytes * word_count) line.old line.new };
 
     // An answer has room in a line.
     ghost fits_a_line: { word_count ≤ max_words };
@@ -43,8 +51,8 @@ impl Words for f32 {
         float::f32_from_bits(word(words))
     }
 
-    fn put(self, line: &mut Line) {
-        line.push(float::f32_to_bits(self));
+    fn put(self, line: &mut Writer<'_>) {
+        line.put_bits(self);
     }
 }
 
@@ -60,9 +68,10 @@ impl Words for u64 {
         u64::from(high) * 0x1_0000_0000 + u64::from(low)
     }
 
-    fn put(self, line: &mut Line) {
-        line.push((self / 0x1_0000_0000) as u32);
-        line.push((self % 0x1_0000_0000) as u32);
+    #[tactic(auto, using(model::proofs::Laws::Digits::length_digits))]
+    fn put(self, line: &mut Writer<'_>) {
+        line.put_field(HEXADECIMAL, WORD_DIGITS, (self / 0x1_0000_0000) as usize);
+        line.put_field(HEXADECIMAL, WORD_DIGITS, (self % 0x1_0000_0000) as usize);
     }
 }
 
@@ -79,7 +88,7 @@ impl Words for Vector3 {
         }
     }
 
-    fn put(self, line: &mut Line) {
+    fn put(self, line: &mut Writer<'_>) {
         self.x.put(line);
         self.y.put(line);
         self.z.put(line);
@@ -100,7 +109,7 @@ impl Words for Quaternion {
         }
     }
 
-    fn put(self, line: &mut Line) {
+    fn put(self, line: &mut Writer<'_>) {
         self.w.put(line);
         self.x.put(line);
         self.y.put(line);
@@ -121,7 +130,7 @@ impl Words for Pose {
         }
     }
 
-    fn put(self, line: &mut Line) {
+    fn put(self, line: &mut Writer<'_>) {
         self.translation.put(line);
         self.scale.put(line);
         self.rotation.put(line);
@@ -142,7 +151,7 @@ impl Words for Row {
         }
     }
 
-    fn put(self, line: &mut Line) {
+    fn put(self, line: &mut Writer<'_>) {
         self.c0.put(line);
         self.c1.put(line);
         self.c2.put(line);
@@ -164,7 +173,7 @@ impl Words for Matrix4 {
         }
     }
 
-    fn put(self, line: &mut Line) {
+    fn put(self, line: &mut Writer<'_>) {
         self.r0.put(line);
         self.r1.put(line);
         self.r2.put(line);

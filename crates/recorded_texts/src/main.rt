@@ -4,14 +4,12 @@
 
 mod damage;
 
-ghost use Rattle.std.specs.Prelude.{◌≤◌, length};
-
 use damage::print_damaged;
 use model::limits::MAX_TEXT;
 use printing::MAX_PRINTED;
 use program::{Question, answer};
 use std::io::{Read, Write};
-use test_io::{read_front, size_at, write_front};
+use test_io::{read_front, size_at};
 
 // Of a text that is damaged, and of another, which has two bytes less.
 const HEADER_SIZE: usize = 16;
@@ -24,71 +22,56 @@ const TEXT_SIZE: usize = MAX_TEXT + 1;
 // The longest text that is damaged.
 const MAX_DAMAGED: usize = 1024;
 
-fn print_answer<W: Write>(output: &mut W, question: Question, text: &[u8], size: usize)
-    requires { size ≤ length text.now }
-{
-    let mut out = [0u8; MAX_PRINTED];
-    let length = answer(question, &text[..size], &mut out);
-    let _ = output.write_all(&out[..length]);
-}
-
 // A text for the program, or one whose uses are asked: their headers have the same form.
-fn run_text<R: Read, W: Write>(input: &mut R, output: &mut W, header: [u8; HEADER_SIZE]) -> bool {
-    let size = size_at(&header, 5);
+fn run_text<R: Read, W: Write>(input: &mut R, output: &mut W, header: &[u8]) -> Option<()> {
+    let size = size_at(header, 5)?;
     if TEXT_SIZE < size {
-        return false;
+        return None;
     }
     let mut text = [0u8; TEXT_SIZE];
-    if !read_front(input, &mut text, size) {
-        return false;
-    }
-    write_front(output, &header, SHORT_HEADER_SIZE);
-    if header[0] == b'u' {
-        print_answer(output, Question::Uses, &text, size);
+    let text = read_front(input, &mut text, size).ok()?;
+    let question = if header.starts_with(b"u") {
+        Question::Uses
     } else {
-        print_answer(output, Question::Frame, &text, size);
-    }
-    true
+        Question::Frame
+    };
+    let mut out = [0u8; MAX_PRINTED];
+    let length = answer(question, text, &mut out);
+    let _ = output.write_all(header);
+    let _ = output.write_all(&out[..length]);
+    Some(())
 }
 
-fn run_damage<R: Read, W: Write>(input: &mut R, output: &mut W, header: [u8; HEADER_SIZE]) -> bool {
-    let size = size_at(&header, 7);
+fn run_damage<R: Read, W: Write>(input: &mut R, output: &mut W, header: &[u8]) -> Option<()> {
+    let size = size_at(header, 7)?;
     if MAX_DAMAGED < size {
-        return false;
+        return None;
     }
     let mut text = [0u8; MAX_DAMAGED];
-    if !read_front(input, &mut text, size) {
-        return false;
-    }
-    write_front(output, &header, HEADER_SIZE);
-    print_damaged(output, &mut text, size);
-    true
+    let text = read_front(input, &mut text, size).ok()?;
+    let _ = output.write_all(header);
+    print_damaged(output, text);
+    Some(())
 }
 
-// False at the end of the input, and at a case that is cut off or has no size.
-fn run_case<R: Read, W: Write>(input: &mut R, output: &mut W) -> bool {
+// None at the end of the input, and at a case that is cut off or has no size.
+fn run_case<R: Read, W: Write>(input: &mut R, output: &mut W) -> Option<()> {
     let mut header = [0u8; HEADER_SIZE];
-    if !read_front(input, &mut header, SHORT_HEADER_SIZE) {
-        return false;
-    }
+    input.read_exact(&mut header[..SHORT_HEADER_SIZE]).ok()?;
     if header[0] != b'd' {
-        return run_text(input, output, header);
+        return run_text(input, output, &header[..SHORT_HEADER_SIZE]);
     }
-    let mut rest = [0u8; 2];
-    if !read_front(input, &mut rest, 2) {
-        return false;
-    }
-    header[SHORT_HEADER_SIZE] = rest[0];
-    header[SHORT_HEADER_SIZE + 1] = rest[1];
-    run_damage(input, output, header)
+    input.read_exact(&mut header[SHORT_HEADER_SIZE..]).ok()?;
+    run_damage(input, output, &header)
 }
 
 // A proved loop has to end, and nothing says that the input does.
 fn main(rt: HostRuntime) {
     let mut input = rt.stdin();
     let mut output = rt.stdout();
-    let mut cases: u64 = 0;
-    while cases < u64::MAX && run_case(&mut input, &mut output) {
-        cases += 1;
+    for _ in 0..u64::MAX {
+        if run_case(&mut input, &mut output).is_none() {
+            return;
+        }
     }
 }

@@ -7,12 +7,15 @@ use input_file::{has_argument, read_file};
 use model::limits::MAX_TEXT;
 use replay_print::print_replay;
 
+// What stands for an argument that cannot be had.
+const ARGUMENT: &[u8] = b"replay: an argument";
+
 fn replay(rt: &HostRuntime, figure: &[u8], calls: &[u8]) {
     if calls.len() > MAX_LIST {
         let _ = eprintln!(rt; "replay: the list of calls is longer than 262144 bytes");
         return;
     }
-    if !print_replay(&mut rt.stdout(), figure, calls) {
+    if print_replay(&mut rt.stdout(), figure, calls).is_err() {
         let _ = eprintln!(rt; "replay: standard output cannot be written");
     }
 }
@@ -26,16 +29,12 @@ fn main(rt: HostRuntime) {
         return;
     }
     let mut figure = [0u8; MAX_TEXT + 1];
-    let figure_read = read_file(&rt, b"replay: an argument", 1, &mut figure);
-    if figure_read.failed {
+    let Some(figure_size) = read_file(&rt, ARGUMENT, 1, &mut figure) else {
         return;
-    }
+    };
     let mut calls = [0u8; MAX_LIST + 1];
-    let calls_read = read_file(&rt, b"replay: an argument", 2, &mut calls);
-    if calls_read.failed {
+    let Some(calls_size) = read_file(&rt, ARGUMENT, 2, &mut calls) else {
         return;
-    }
-    let figure_size = figure_read.count;
-    let calls_size = calls_read.count;
+    };
     replay(&rt, &figure[..figure_size], &calls[..calls_size]);
 }

@@ -1,7 +1,7 @@
 // A player that is updated where it lies, beside one that is updated by value.
 ghost use Rattle.model.specs.Promises.{Updated};
 
-use crate::refusals::NO_PARENT;
+use crate::figure::{NUMBERS, PLAN};
 use crate::show;
 use controller::{speed, start, update, update_in_place};
 use model::Player;
@@ -25,15 +25,11 @@ fn step<W: Write>(to: &mut W, player: Player, delta: f64) {
 
 // At speed 2 the clock moves twice as far as it is told: from 0 by 0.75 to 1.5, and from there by 0.25 to 2.
 pub fn beside_update<W: Write>(to: &mut W) {
-    let plan: [u16; 14] = [1, 1, 0, 1, 0, NO_PARENT, 1, 0, 1, 0, 0, 0, 0, 0];
-    let numbers: [f32; 9] = [1.0, 1.0, 2.0, 3.0, 1.0, 1.0, 0.0, 0.0, 0.0];
     show::text(
         to,
         b"# update-in-place: a player updated where it lies, beside one updated by value\n",
     );
-    let begun = start(&plan, &numbers);
-    let fresh = begun.player;
-    let quick = speed(fresh, 2.0);
+    let quick = speed(start(&PLAN, &NUMBERS).player, 2.0);
     step(to, quick, 0.75);
     step(to, updated(quick, 0.75), 0.25);
 }

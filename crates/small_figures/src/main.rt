@@ -2,6 +2,7 @@
 // README.md lists the cases; each begins with its name.
 #![tactic(auto)]
 
+mod figure;
 mod in_place;
 mod refusals;
 mod show;

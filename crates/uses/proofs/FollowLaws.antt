@@ -3,38 +3,38 @@ use Prim.Native.Nat.{ℕ, zero, suc, ◌+◌, ◌-◌, ◌≤◌, ◌<◌}
 use native.Mathlib.Omega.{arith}
 use mathlib.Core.Path.{◌≡◌, refl, sym, ◌∙◌, subst}
 use mathlib.Core.Logic.{◌⊎◌, inl, inr}
-use mathlib.Core.Bool.{Bool, true, false, not}
+use mathlib.Core.Bool.{Bool, true, false}
 use mathlib.Core.List.{List}
+use Rattle.std.specs.Prelude.{Some, None}
 use lib.ListN.{length, set, replicate, length-replicate}
 use lib.Seq.{ext_get_or}
 use lib.Dec.{eqb}
 use borrow.Author.Tests.{eqb-true, eq-eqb}
-use Rattle.model.specs.declared.Answer.TheVariants.{Accepted}
+use Rattle.model.specs.declared.Uses.{Uses}
 use Rattle.model.specs.Plan.{max_states, max_parameters, max_clips, state_count, initial_state, target_state}
 use Rattle.model.specs.Uses.{is_marked, leads_to, reads, plays, state_marks, parameter_marks, clip_marks, UsedWithin}
 use Rattle.model.specs.Unseen.{Reachable, initial, target}
 use Rattle.model.proofs.Laws.Marks.{or_cases, or_first, or_second, same_test, unlike, marks_length, count, one_more, all_counted}
-use Rattle.model.proofs.Laws.Tests.{and_left, and_right, not_true}
 use Rattle.model.proofs.Laws.Passed.{few_states, initial_below, reachable_below}
 use Rattle.model.proofs.Laws.Reached.{chain_reachable, leads_at, leads_reachable, state_marks_length, marked_reachable, reachable_marked, marked_reader, marked_player, read_by, played_by}
 use Rattle.layout.specs.Layout.{Passes}
-use Rattle.uses.specs.Marking.{Marked, is_open, FirstOpen, MarksOf}
-use Rattle.uses.proofs.Laws.{marked_one}
+use Rattle.uses.specs.Marking.{Marked, AllMarked, first_open, MarksOf}
+use Rattle.uses.proofs.Laws.{marked_one, open_found, none_open}
 
-pub record Following (plan : List ℕ) (states parameters clips followed : List Bool) (rounds : ℕ) : Type 0 where
-  pub states_long : length states ≡ max_states
-  pub parameters_long : length parameters ≡ max_parameters
-  pub clips_long : length clips ≡ max_clips
+pub record Following (plan : List ℕ) (marks : Uses) (followed : List Bool) (rounds : ℕ) : Type 0 where
+  pub states_long : length marks.states ≡ max_states
+  pub parameters_long : length marks.parameters ≡ max_parameters
+  pub clips_long : length marks.clips ≡ max_clips
   pub followed_long : length followed ≡ max_states
   -- no mark is wrong
-  pub reached : (s : ℕ) → is_marked states s ≡ true → Reachable plan s
-  pub read : (n : ℕ) → is_marked parameters n ≡ true → is_marked (parameter_marks plan) n ≡ true
-  pub played : (c : ℕ) → is_marked clips c ≡ true → is_marked (clip_marks plan) c ≡ true
+  pub reached : (s : ℕ) → is_marked marks.states s ≡ true → Reachable plan s
+  pub read : (n : ℕ) → is_marked marks.parameters n ≡ true → is_marked (parameter_marks plan) n ≡ true
+  pub played : (c : ℕ) → is_marked marks.clips c ≡ true → is_marked (clip_marks plan) c ≡ true
   -- the initial state is marked, and all that a followed one leads to and uses
-  pub begun : is_marked states (initial_state plan) ≡ true
-  pub led : (s u : ℕ) → is_marked followed s ≡ true → leads_to plan s u ≡ true → is_marked states u ≡ true
-  pub reader : (s n : ℕ) → is_marked followed s ≡ true → reads plan s n ≡ true → is_marked parameters n ≡ true
-  pub player : (s c : ℕ) → is_marked followed s ≡ true → plays plan s c ≡ true → is_marked clips c ≡ true
+  pub begun : is_marked marks.states (initial_state plan) ≡ true
+  pub led : (s u : ℕ) → is_marked followed s ≡ true → leads_to plan s u ≡ true → is_marked marks.states u ≡ true
+  pub reader : (s n : ℕ) → is_marked followed s ≡ true → reads plan s n ≡ true → is_marked marks.parameters n ≡ true
+  pub player : (s c : ℕ) → is_marked followed s ≡ true → plays plan s c ≡ true → is_marked marks.clips c ≡ true
   -- each round follows one more
   pub counted : rounds ≤ count (is_marked followed) (state_count plan)
 
@@ -55,23 +55,25 @@ module _ {plan : List ℕ} (passes : Passes plan) where
 
   -- ---- one more state is followed
 
-  module _ {states parameters clips followed : List Bool} {rounds : ℕ} (so_far : Following plan states parameters clips followed rounds) where
-    module _ {s : ℕ} (below : s < state_count plan) (opened : is_open states followed s ≡ true)
-        {states' parameters' clips' : List Bool} (x : Marked (leads_to plan s) states states')
-        (y : Marked (reads plan s) parameters parameters') (z : Marked (plays plan s) clips clips') where
-      marked : is_marked states s ≡ true
-      unfolding is_open
-      marked = and_left (is_marked states s) (not (is_marked followed s)) opened
+  module _ {marks : Uses} {followed : List Bool} {rounds : ℕ} (so_far : Following plan marks followed rounds) where
+    same_long : length marks.states ≡ length followed
+    same_long = so_far.states_long ∙ sym so_far.followed_long
+
+    module _ {s : ℕ} (opened : Some s ≡ first_open marks.states followed) where
+      marked : is_marked marks.states s ≡ true
+      marked = (open_found _ _ same_long s opened).0
 
       fresh : is_marked followed s ≡ false
-      unfolding is_open
-      fresh = not_true _ (and_right (is_marked states s) (not (is_marked followed s)) opened)
+      fresh = (open_found _ _ same_long s opened).1
 
       here : Reachable plan s
       here = so_far.reached s marked
 
+      pub below : s < state_count plan
+      below = reachable_below plan n passes.passed here
+
       inside : s < length followed
-      inside = omega (arith, so_far.followed_long, few_states plan n passes.passed)
+      inside = omega (arith, below, so_far.followed_long, few_states plan n passes.passed)
 
       one : Marked (λ k. eqb s k) followed (set followed s true)
       one = marked_one followed s inside
@@ -101,8 +103,11 @@ module _ {plan : List ℕ} (passes : Passes plan) where
           go (inl h) = was k h
           go (inr h) = brings k h
 
-      pub following_next : Following plan states' parameters' clips' (set followed s true) (rounds + 1)
-      following_next =
+      pub following_next : {next : Uses} → AllMarked (leads_to plan s) (reads plan s) (plays plan s) marks next → Following plan next (set followed s true) (rounds + 1)
+      following_next {next} m =
+          let x = m.states in
+          let y = m.parameters in
+          let z = m.clips in
           record {
             states_long = x.long ∙ so_far.states_long;
             parameters_long = y.long ∙ so_far.parameters_long;
@@ -112,30 +117,25 @@ module _ {plan : List ℕ} (passes : Passes plan) where
             read = right (λ k. is_marked (parameter_marks plan) k ≡ true) y so_far.read (λ k e. read_by plan n passes.passed k here e);
             played = right (λ k. is_marked (clip_marks plan) k ≡ true) z so_far.played (λ k e. played_by plan n passes.passed k here e);
             begun = stays x (initial_state plan) so_far.begun;
-            led = λ u v e. all (λ w. leads_to plan w v ≡ true → is_marked states' v ≡ true) (λ w h l. stays x v (so_far.led w v h l)) (comes x v) u e;
-            reader = λ u k e. all (λ w. reads plan w k ≡ true → is_marked parameters' k ≡ true) (λ w h l. stays y k (so_far.reader w k h l)) (comes y k) u e;
-            player = λ u k e. all (λ w. plays plan w k ≡ true → is_marked clips' k ≡ true) (λ w h l. stays z k (so_far.player w k h l)) (comes z k) u e;
+            led = λ u v e. all (λ w. leads_to plan w v ≡ true → is_marked next.states v ≡ true) (λ w h l. stays x v (so_far.led w v h l)) (comes x v) u e;
+            reader = λ u k e. all (λ w. reads plan w k ≡ true → is_marked next.parameters k ≡ true) (λ w h l. stays y k (so_far.reader w k h l)) (comes y k) u e;
+            player = λ u k e. all (λ w. plays plan w k ≡ true → is_marked next.clips k ≡ true) (λ w h l. stays z k (so_far.player w k h l)) (comes z k) u e;
             counted = omega (arith, so_far.counted, one_more (is_marked followed) (is_marked (set followed s true)) (state_count plan) s below fresh (comes one s (eq-eqb s s refl)) (λ k h e. stays one k e));
           }
 
     -- ---- all marked ones are followed
 
     abbrev Done : Type 0
-    Done = (s : ℕ) → s < state_count plan → is_marked states s ≡ true → is_marked followed s ≡ true
+    Done = (s : ℕ) → s < state_count plan → is_marked marks.states s ≡ true → is_marked followed s ≡ true
 
-    pub none_open : {r : ℕ} → FirstOpen states followed (state_count plan) r → state_count plan ≤ r → Done
-    unfolding is_open
-    none_open f past s h e = go (is_marked followed s) refl
-      where
-        go : (t : Bool) → is_marked followed s ≡ t → is_marked followed s ≡ true
-        go true q = q
-        go false q = absurd (unlike (rw (e, q) refl) (f.none past s h))
+    pub none_left : None ≡ first_open marks.states followed → Done
+    none_left e s h = none_open _ _ same_long s e (omega (arith, so_far.states_long, few_states plan n passes.passed))
 
-    pub all_followed : state_count plan ≤ rounds → Done
-    all_followed h s below e = all_counted (is_marked followed) (state_count plan) (omega (arith, so_far.counted)) s below
+    pub all_followed : rounds ≡ state_count plan → Done
+    all_followed e s below h = all_counted (is_marked followed) (state_count plan) (omega (arith, so_far.counted)) s below
 
     module _ (done : Done) where
-      complete : {s : ℕ} → Reachable plan s → is_marked states s ≡ true
+      complete : {s : ℕ} → Reachable plan s → is_marked marks.states s ≡ true
       complete initial = so_far.begun
       complete (target {s = s} r t h) = so_far.led s (target_state plan s t) (done s (reachable_below plan n passes.passed r) (complete r)) (leads_at plan s t h)
 
@@ -144,25 +144,25 @@ module _ {plan : List ℕ} (passes : Passes plan) where
           let r : Reachable plan x.state = chain_reachable x.within.chain in
           done x.state (reachable_below plan n passes.passed r) (complete r)
 
-      states_marked : states ≡ state_marks plan
+      states_marked : marks.states ≡ state_marks plan
       states_marked =
-          ext_get_or false states (state_marks plan) (so_far.states_long ∙ sym (state_marks_length plan))
+          ext_get_or false marks.states (state_marks plan) (so_far.states_long ∙ sym (state_marks_length plan))
           (λ s h. same_test _ _ (λ e. reachable_marked plan n passes.passed (so_far.reached s e)) (λ e. complete (marked_reachable plan n passes.passed e)))
 
-      parameters_marked : parameters ≡ parameter_marks plan
+      parameters_marked : marks.parameters ≡ parameter_marks plan
       unfolding parameter_marks
       parameters_marked =
-          ext_get_or false parameters (parameter_marks plan) (so_far.parameters_long ∙ sym (marks_length _ max_parameters))
+          ext_get_or false marks.parameters (parameter_marks plan) (so_far.parameters_long ∙ sym (marks_length _ max_parameters))
           (λ k h. same_test _ _ (so_far.read k) (λ e. let x = marked_reader plan n passes.passed k e in so_far.reader x.state k (by_state x) x.uses))
 
-      clips_marked : clips ≡ clip_marks plan
+      clips_marked : marks.clips ≡ clip_marks plan
       unfolding clip_marks
       clips_marked =
-          ext_get_or false clips (clip_marks plan) (so_far.clips_long ∙ sym (marks_length _ max_clips))
+          ext_get_or false marks.clips (clip_marks plan) (so_far.clips_long ∙ sym (marks_length _ max_clips))
           (λ k h. same_test _ _ (so_far.played k) (λ e. let x = marked_player plan n passes.passed k e in so_far.player x.state k (by_state x) x.uses))
 
-      pub marks_found : MarksOf plan (record { answer = Accepted; states = states; parameters = parameters; clips = clips })
-      marks_found = record { answer = refl; states = states_marked; parameters = parameters_marked; clips = clips_marked }
+      pub marks_found : MarksOf plan marks
+      marks_found = record { states = states_marked; parameters = parameters_marked; clips = clips_marked }
 
   -- ---- the beginning
 
@@ -174,7 +174,7 @@ module _ {plan : List ℕ} (passes : Passes plan) where
       blank (suc m) zero = refl
       blank (suc m) (suc k) = blank m k
 
-  pub following_first : Following plan (set (replicate max_states false) (initial_state plan) true) (replicate max_parameters false) (replicate max_clips false) (replicate max_states false) 0
+  pub following_first : Following plan (record { states = set (replicate max_states false) (initial_state plan) true; parameters = replicate max_parameters false; clips = replicate max_clips false }) (replicate max_states false) 0
   following_first =
       let one = marked_one (replicate max_states false) (initial_state plan) (omega (arith, length-replicate max_states false, initial_below plan n passes.passed, few_states plan n passes.passed)) in
       record {

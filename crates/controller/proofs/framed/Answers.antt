@@ -2,4 +2,4 @@
 use Rattle.controller.proofs.framed.Goals as goal
 
 pub returns : goal.returns
-returns c = rw c.outcome.ensures c.frame-done.ensures
+returns c = rw c.from.ensures at c.frame-done.ensures

@@ -8,7 +8,7 @@ use Rattle.program_text.proofs.read_program_text.Goals as goal
 
 pub returns-then-text-gt-MAX_TEXT : goal.returns-then-text-gt-MAX_TEXT
 unfolding text_values
-returns-then-text-gt-MAX_TEXT c = long_refused _ _ _ _ (omega arith) refl
+returns-then-text-gt-MAX_TEXT c = rw c.at.ensures (long_refused _ _ _ _ (omega arith) refl)
 
 pub returns : goal.returns
 returns c = short_read _ _ _ _ _ _ (omega arith) (search rules) (search rules) c.read.ensures

@@ -1,58 +1,44 @@
 -- `uses::marks_of` meets its contract. Invariant: `Following`. It ends where no marked state is left to follow, or where all states were followed.
 -- Assumes nothing.
-use Prim.Native.Nat.{◌<◌}
 use native.Mathlib.Omega.{arith}
-use Rattle.model.specs.Plan.{state_count}
+use mathlib.Core.Path.{◌≡◌, ap}
+use Rattle.model.specs.Plan.{initial_state, state_count}
 use Rattle.model.proofs.Laws.Passed.{few_states, initial_below}
-use Rattle.layout.proofs.Laws.{states_found}
-use Rattle.uses.proofs.Laws.{initial_found}
-use Rattle.uses.proofs.FollowLaws.{following_first, following_next, none_open, all_followed, marks_found}
+use Rattle.layout.specs.Layout.{layout_of}
+use Rattle.layout.proofs.Laws.{laid_passes, states_found}
+use Rattle.uses.proofs.FollowLaws.{following_first, following_next, below, none_left, all_followed, marks_found}
 use Rattle.uses.proofs.marks_of.Goals as goal
-use Rattle.uses.proofs.marks_of.Goals.{Else-state-layout}
+use Rattle.uses.proofs.marks_of.Goals.{Start}
 
-pub bounds-states-initial : goal.bounds-states-initial
-bounds-states-initial c =
-    let p = c.requires in
-    omega (arith, initial_found _ p.1, initial_below _ p.0.numbers p.0.passed, few_states _ p.0.numbers p.0.passed)
+initial : (c : Start) → c.args.plan.now.layout.initial ≡ initial_state c.args.plan.now.words.now
+unfolding layout_of
+initial c = ap (λ l. l.initial) c.args.plan.now.laid.found
 
-pub loop-rounds-init : goal.loop-rounds-init
-loop-rounds-init c = let p = c.requires in rw (initial_found _ p.1) (following_first p.0)
+pub bounds-marks-plan : goal.bounds-marks-plan
+bounds-marks-plan c = let ok = c.args.plan.now.laid.passed in omega (arith, initial (goal.at.bounds-marks-plan c).Start, initial_below _ _ ok, few_states _ _ ok)
 
-pub first_open-state-requires : goal.first_open-state-requires
-first_open-state-requires c =
-    let p = c.requires in
-    let f = c.loop-rounds.invariant in
-    (omega (arith, states_found _ p.1, few_states _ p.0.numbers p.0.passed, f.states_long), omega (arith, states_found _ p.1, few_states _ p.0.numbers p.0.passed, f.followed_long))
-
--- past the test there is an open state
-below : (c : Else-state-layout) → c.first_open-state.result < state_count c.args.plan.now
-below c = omega (arith, states_found _ c.requires.1, c.if-state-layout.false)
+pub loop-init : goal.loop-init
+loop-init c = rw (initial (goal.at.loop-init c).Start) (following_first (laid_passes c.args.plan.now.laid))
 
 pub follow-requires : goal.follow-requires
-follow-requires c =
-    let p = c.requires in
-    let f = c.loop-rounds.invariant in
-    (p.0, p.1, below (goal.at.follow-requires c).Else-state-layout, omega (arith, f.states_long), omega (arith, f.parameters_long), omega (arith, f.clips_long))
+follow-requires c = below (laid_passes c.args.plan.now.laid) c.loop.invariant (c.in-Some.ensures)
 
 pub bounds-followed-state : goal.bounds-followed-state
 bounds-followed-state c =
-    let p = c.requires in
-    omega (arith, below (goal.at.bounds-followed-state c).Else-state-layout, few_states _ p.0.numbers p.0.passed, c.loop-rounds.invariant.followed_long)
+    let ok = laid_passes c.args.plan.now.laid in
+    omega (arith, below ok c.loop.invariant (c.in-Some.ensures), few_states _ ok.numbers ok.passed)
 
-pub loop-rounds-preserved : goal.loop-rounds-preserved
-loop-rounds-preserved c =
-    let p = c.requires in
-    let told = c.follow.ensures in
-    following_next p.0 c.loop-rounds.invariant (below (goal.at.loop-rounds-preserved c).Else-state-layout) (c.first_open-state.ensures.found (omega (arith, c.if-state-layout.false))) told.0 told.1 told.2
+pub loop-preserved : goal.loop-preserved
+loop-preserved c = following_next (laid_passes c.args.plan.now.laid) c.loop.invariant (c.in-Some.ensures) c.follow.ensures
 
-pub returns-after-loop-rounds : goal.returns-after-loop-rounds
-returns-after-loop-rounds c =
-    let p = c.requires in
-    let f = c.loop-rounds.invariant in
-    marks_found p.0 f (all_followed p.0 f (omega (arith, states_found _ p.1, c.loop-rounds-test.false)))
+pub returns-after-loop : goal.returns-after-loop
+returns-after-loop c =
+    let plan = c.args.plan.now in
+    let all : c.loop.counter ≡ state_count plan.words.now = omega (arith, states_found _ plan.laid.found) in
+    let ok = laid_passes plan.laid in
+    marks_found ok c.loop.invariant (all_followed ok c.loop.invariant all)
 
-pub returns-then-state-layout : goal.returns-then-state-layout
-returns-then-state-layout c =
-    let p = c.requires in
-    let f = c.loop-rounds.invariant in
-    marks_found p.0 f (none_open p.0 f (rw (states_found _ p.1) at c.first_open-state.ensures) (omega (arith, states_found _ p.1, c.if-state-layout.true)))
+pub returns-in_default : goal.returns-in_default
+returns-in_default c =
+    let ok = laid_passes c.args.plan.now.laid in
+    marks_found ok c.loop.invariant (none_left ok c.loop.invariant c.in_default.ensures)
