@@ -35,7 +35,7 @@ fn put_marks(w: &mut Writer<'_>, name: &[u8], marks: &[bool])
 }
 
 // The lines of a figure that was not refused.
-#[tactic(auto, unfolding(model::specs::Plan::state_count, model::specs::Plan::parameter_count, model::specs::Plan::clip_count,))]
+#[tactic(auto, unfolding(model::specs::Plan::state_count, model::specs::Plan::parameter_count, model::specs::Plan::clip_count))]
 fn put_uses(w: &mut Writer<'_>, plan: &[u16], marks: &Uses)
     requires { (state_count plan.now ≤ max_states)
         × (parameter_count plan.now ≤ max_parameters)
@@ -45,13 +45,12 @@ fn put_uses(w: &mut Writer<'_>, plan: &[u16], marks: &Uses)
         (use_lines plan.now marks.now.states marks.now.parameters marks.now.clips)
         w.old w.new }
 {
-    put_marks(w, b"state", &marks.states[..word(plan, STATE_COUNT_AT)]);
-    put_marks(
-        w,
-        b"parameter",
-        &marks.parameters[..word(plan, PARAMETER_COUNT_AT)],
-    );
-    put_marks(w, b"clip", &marks.clips[..word(plan, CLIP_COUNT_AT)]);
+    let states = word(plan, STATE_COUNT_AT);
+    let parameters = word(plan, PARAMETER_COUNT_AT);
+    let clips = word(plan, CLIP_COUNT_AT);
+    put_marks(w, b"state", &marks.states[..states]);
+    put_marks(w, b"parameter", &marks.parameters[..parameters]);
+    put_marks(w, b"clip", &marks.clips[..clips]);
 }
 
 // What `inspect uses` prints of a figure, over the front of `out`, and how many bytes that is; the others are left.

@@ -9,9 +9,9 @@ pub returns : goal.returns
 unfolding name state_count parameter_count clip_count
 returns c =
     let m = c.args.marks.now in
-    let states = marks_written _ m.states c.word.result (omega arith) c.put_marks.ensures.0 in
-    let parameters = marks_written _ m.parameters c.word-2.result (omega arith) c.put_marks-2.ensures.0 in
-    let clips = marks_written _ m.clips c.word-3.result (omega arith) c.put_marks-3.ensures.0 in
+    let states = marks_written _ m.states c.word-states.result (omega arith) c.put_marks.ensures.0 in
+    let parameters = marks_written _ m.parameters c.word-parameters.result (omega arith) c.put_marks-2.ensures.0 in
+    let clips = marks_written _ m.clips c.word-clips.result (omega arith) c.put_marks-3.ensures.0 in
     let lines =
-    uses_written c.args.plan.now _ _ _ (rw c.word.ensures.0 at states) (rw c.word-2.ensures.0 at parameters) (rw c.word-3.ensures.0 at clips) in
+    uses_written c.args.plan.now _ _ _ (rw c.word-states.ensures.0 at states) (rw c.word-parameters.ensures.0 at parameters) (rw c.word-clips.ensures.0 at clips) in
     (lines, omega arith)
