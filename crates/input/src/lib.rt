@@ -18,6 +18,7 @@ pub fn read_input<R: Read>(reader: &mut R, text: &mut [u8]) -> io::Result<usize>
 {
     let mut done = 0;
     let mut failures = 0;
+    // No `for`: a turn goes on by as many bytes as were read, and a failed one by none.
     while done < text.len() {
         match reader.read(&mut text[done..]) {
             Ok(0) => break,
