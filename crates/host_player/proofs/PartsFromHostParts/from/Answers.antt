@@ -1,7 +1,7 @@
--- `host_player::unpack_parts` meets its contract: the test is the definition's. Assumes nothing.
+-- `Parts::from` of a host's meets its contract: the test is the definition's. Assumes nothing.
 use borrow.Author.Tests.{eq-eqb, ne_eqb}
 use Rattle.host_player.specs.HostPlayer.{transition_of, unpacked}
-use Rattle.host_player.proofs.unpack_parts.Goals as goal
+use Rattle.host_player.proofs.PartsFromHostParts.from.Goals as goal
 
 pub returns-then-flat-eq0 : goal.returns-then-flat-eq0
 unfolding transition_of unpacked

@@ -1,8 +1,7 @@
--- `host_player::pack_parts` meets its contract, by the case of the transition. Assumes nothing.
-use borrow.Author.Rules.{rules}
+-- `HostParts::from` meets its contract, by the case of the transition. Assumes nothing.
 use lib.Ieee.{of_bits}
 use Rattle.host_player.specs.HostPlayer.{packed, packed_as, packed_with}
-use Rattle.host_player.proofs.pack_parts.Goals as goal
+use Rattle.host_player.proofs.HostPartsFromParts.from.Goals as goal
 
 pub returns-in-Idle : goal.returns-in-Idle
 unfolding packed packed_as packed_with of_bits
