@@ -118,17 +118,10 @@ fn read_text(text: &[u8], plan: &mut [u16], numbers: &mut [f32]) -> Result<Progr
     ensures { ReadBy read_figure text.now begin result
         plan.old plan.new numbers.old numbers.new }
 {
-    let progress = Progress {
-        at: 0,
-        line: 0,
-        words: 0,
-        numbers: 0,
-    };
-    let values = [0; MAX_FIELDS];
     let mut reader = Reader {
         text,
-        progress,
-        values,
+        progress: Progress::default(),
+        values: [0; MAX_FIELDS],
         plan,
         numbers,
     };

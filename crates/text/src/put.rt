@@ -9,7 +9,7 @@ use float::f32_from_bits;
 use model::{FieldForm, LineKind, Reason, Refusal};
 
 // The place in the text, and how many lines, words and numbers stand before it.
-#[derive(Clone, Copy)]
+#[derive(Clone, Copy, Default)]
 pub struct Progress {
     pub at: usize,
     pub line: usize,
