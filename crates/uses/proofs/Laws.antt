@@ -6,6 +6,7 @@ use native.Mathlib.Decide.{ℕ_discrete}
 use mathlib.Core.Path.{◌≡◌, refl, sym, ap, ◌∙◌}
 use mathlib.Core.Bool.{Bool, true, false, not, ◌&&◌, ◌||◌}
 use mathlib.Core.List.{List}
+use Rattle.std.proofs.Math.Bool.{or-false, or-true, or_assoc}
 use lib.ListN.{length, get_or, set, length-set}
 use Rattle.std.specs.Prelude.{Some, None}
 use Rattle.std.specs.List.{position, position_or_len, zip}
@@ -32,18 +33,6 @@ use Rattle.uses.specs.Marking.{Marked, AllMarked, none, first_open}
 
 -- ---- marks that are added
 
-or_none : (a : Bool) → a ≡ a || false
-or_none true = refl
-or_none false = refl
-
-or_all : (a : Bool) → true ≡ a || true
-or_all true = refl
-or_all false = refl
-
-or_assoc : (a b c : Bool) → (a || b) || c ≡ a || (b || c)
-or_assoc true b c = refl
-or_assoc false b c = refl
-
 module _ {f g : ℕ → Bool} {l m : List Bool} where
   -- by a test that is the same
   pub marked_as : ((k : ℕ) → f k ≡ g k) → Marked f l m → Marked g l m
@@ -55,14 +44,14 @@ module _ {f g : ℕ → Bool} {l m : List Bool} where
       record { long = y.long ∙ x.long; mark = λ k. y.mark k ∙ ap (λ (t : Bool). t || g k) (x.mark k) ∙ or_assoc (is_marked l k) (f k) (g k) }
 
 pub marked_none : {f : ℕ → Bool} (l : List Bool) → ((k : ℕ) → f k ≡ false) → Marked f l l
-marked_none l none = record { long = refl; mark = λ k. or_none (is_marked l k) ∙ ap (λ (t : Bool). is_marked l k || t) (sym (none k)) }
+marked_none l none = record { long = refl; mark = λ k. sym (or-false (is_marked l k)) ∙ ap (λ (t : Bool). is_marked l k || t) (sym (none k)) }
 
 pub marked_one : (l : List Bool) (a : ℕ) → a < length l → Marked (λ k. eqb a k) l (set l a true)
 marked_one l a h = record { long = length-set l a true; mark = λ k. go k (ℕ_discrete k a) }
   where
     go : (k : ℕ) → Dec (k ≡ a) → is_marked (set l a true) k ≡ is_marked l k || eqb a k
-    go k (yes e) = rw (e, eq-eqb a a refl) (get_or-set_same l a true false h ∙ or_all (is_marked l a))
-    go k (no e) = rw (ne_eqb a k (λ q. e (sym q))) (get_or-set_other l a k true false e ∙ or_none (is_marked l k))
+    go k (yes e) = rw (e, eq-eqb a a refl) (get_or-set_same l a true false h ∙ sym (or-true (is_marked l a)))
+    go k (no e) = rw (ne_eqb a k (λ q. e (sym q))) (get_or-set_other l a k true false e ∙ sym (or-false (is_marked l k)))
 
 -- one more number below which some passes
 pub marked_next : (f : ℕ → ℕ → Bool) (i : ℕ) {l m n : List Bool} → Marked (λ k. any_below i (λ j. f j k)) l m → Marked (f i) m n → Marked (λ k. any_below (i + 1) (λ j. f j k)) l n
@@ -166,7 +155,7 @@ state_followed plan s e nodes transitions =
     record {
       states = rw q at (marked_then nodes.states transitions.states);
       parameters = rw q at (marked_then nodes.parameters transitions.parameters);
-      clips = rw q at (marked_as (λ k. sym (or_none _)) (marked_then nodes.clips transitions.clips));
+      clips = rw q at (marked_as (λ k. or-false _) (marked_then nodes.clips transitions.clips));
     }
 
 -- ---- a search
