@@ -2,6 +2,9 @@
 // output, part by part.
 #![tactic(auto)]
 
+ghost use Rattle.std.specs.Prelude.{ℕ, List, ◌≤◌, length};
+ghost use Rattle.std.specs.Fn.{FnOnceReturnsAtMut};
+
 use calls::check_calls;
 use layout::MAX_PLAN;
 use model::limits::MAX_NUMBERS;
@@ -22,9 +25,17 @@ fn print_refusal<W: Write>(output: &mut W, refusal: Refusal) -> io::Result<()> {
     output.write_all(&out[..size])
 }
 
-fn print_malformed<W: Write>(output: &mut W, line: usize) -> io::Result<()> {
+// What `put` puts over the front of a buffer.
+fn print_front<W: Write, P: FnOnce(&mut [u8; MAX_REPORT]) -> usize>(
+    output: &mut W,
+    put: P,
+) -> io::Result<()>
+    requires callable { P.IsAlwaysCallable put }
+    requires inside { (before after : List ℕ) (size : ℕ) → FnOnceReturnsAtMut P.FnOnce put before size after
+        → size ≤ length after }
+{
     let mut out = [0u8; MAX_REPORT];
-    let size = put_malformed(line, &mut out);
+    let size = put(&mut out);
     output.write_all(&out[..size])
 }
 
@@ -34,12 +45,6 @@ fn print_start<W: Write>(output: &mut W, plan: &[u16], numbers: &[f32]) -> io::R
     let begun = begin(plan, numbers, &mut out);
     output.write_all(&out[..begun.length])?;
     Ok(begun.player)
-}
-
-fn print_end<W: Write>(output: &mut W, player: Player) -> io::Result<()> {
-    let mut out = [0u8; MAX_REPORT];
-    let size = finish(player, &mut out);
-    output.write_all(&out[..size])
 }
 
 // A list of so many lines, as many of its calls at a time as the buffer holds reports of.
@@ -62,7 +67,7 @@ fn print_list<W: Write>(
         output.write_all(&out[..progress.length])?;
         left = progress.left;
     }
-    print_end(output, left.player)
+    print_front(output, |out| finish(left.player, out))
 }
 
 // An error where the output cannot be written.
@@ -77,6 +82,6 @@ pub fn print_replay<W: Write>(output: &mut W, figure: &[u8], calls: &[u8]) -> io
     let numbers = &numbers[..read.numbers];
     match check_calls(calls) {
         Ok(lines) => print_list(output, plan, numbers, calls, lines),
-        Err(malformed) => print_malformed(output, malformed.line),
+        Err(malformed) => print_front(output, |out| put_malformed(malformed.line, out)),
     }
 }
