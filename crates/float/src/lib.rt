@@ -30,6 +30,7 @@ pub fn f32_from_bits(b: u32) -> f32
 }
 
 // A NaN has the pattern 7fc00000 here, and 7ff8000000000000 at 64 bits.
+// At each width by itself, as from bits.
 pub fn f32_to_bits(x: f32) -> u32
     ensures { result ≡ to_bits binary32 x }
 {
