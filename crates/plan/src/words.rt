@@ -37,7 +37,7 @@ fn within(low: usize, x: usize, high: usize) -> bool
     low <= x && x <= high
 }
 
-// A line each over `word_is`, with the test's name: by a closure every call would write its test out.
+// A line each over `word_is`, with the definitions' own test in its clause: for a range that would speak of bounds.
 pub fn word_within(plan: &[u16], reason: Reason, at: usize, low: usize, high: usize) -> Answer
     ensures { values result ≡ word_is plan.now (number_of reason) at (within low (word plan.now at) high) }
 {

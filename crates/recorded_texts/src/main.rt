@@ -43,7 +43,6 @@ fn run_text<R: Read, W: Write>(input: &mut R, output: &mut W, header: &[u8]) -> 
     Some(())
 }
 
-// Beside `run_text`: where the size stands, its limit and what is done differ, which leaves three lines to share.
 fn run_damage<R: Read, W: Write>(input: &mut R, output: &mut W, header: &[u8]) -> Option<()> {
     let size = size_at(header, 7)?;
     if MAX_DAMAGED < size {
