@@ -140,7 +140,8 @@ fn case_pattern(case: Narrowed) -> u32
     }
 }
 
-// Worked out on the pattern, since the cast `x as f32` is not supplied. The sign is kept.
+// Worked out on the pattern, by the cases that document 02's Card 4 asks for; std's nearest_f64_to_f32 would hide them.
+// The sign is kept.
 pub fn narrow(x: f64) -> f32
     ensures { result ≡ narrow x }
 {
