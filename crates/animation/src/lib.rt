@@ -51,6 +51,7 @@ pub fn position_in(samples: usize, position: f32) -> Position
 
 // Where a clip is sampled: a stopping one is held on its last sample. The ending is asked first, so that a looping clip
 // pays for that alone. The cast is exact.
+// A bool, as the definition of this name takes: an enum of two endings would be turned back into one for it.
 pub fn sampled_position(stopping: bool, samples: usize, position: f32) -> f32
     requires { (0 < samples) × (samples ≤ max_samples) }
     ensures { result ≡ sampled_position stopping samples position }

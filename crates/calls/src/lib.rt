@@ -147,6 +147,7 @@ fn set_line(mut line: Cursor) -> Option<CallAt>
     line.ends(Call::Set { parameter, value })
 }
 
+// `kind` picks nothing: it goes into the call.
 fn frame_line(mut line: Cursor, kind: FrameKind) -> Option<CallAt>
     ensures { CallRead line.entry.text.now (frame_line kind (left line.entry)) result }
 {
@@ -165,6 +166,7 @@ fn loops_line(mut line: Cursor) -> Option<CallAt>
 }
 
 // The call in the line that begins at `at`; none where that line is malformed.
+// Name by name, as the definition `call_in`: a match on a name would first have to look for its end.
 pub fn call_at(text: &[u8], at: usize) -> Option<CallAt>
     ensures value { result ≡ call_at text.now at }
     ensures result_value { line_read text.now result ≡ call_in (drop at text.now) }

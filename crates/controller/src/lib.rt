@@ -166,6 +166,7 @@ fn framed(
     }
 }
 
+// Two calls over one function, since README and docs/PROOFS.md name both.
 pub fn frame(plan: &[u16], numbers: &[f32], player: Player, ext: f64, output: &mut [f32]) -> Outcome
     ensures { Framed Ordinary plan.now numbers.now player ext
         output.old output.new result }

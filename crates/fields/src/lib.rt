@@ -10,6 +10,7 @@ ghost use Rattle.fields.specs.CountedTo.{CountedTo};
 
 use model::FieldForm;
 
+// report, printing and recorded_functions have sizes of their own: a line each, as importing a public one would be.
 const DECIMAL: usize = 10;
 
 const HEXADECIMAL: usize = 16;
@@ -53,6 +54,7 @@ pub fn name_at(text: &[u8], at: usize, name: &[u8]) -> usize
 const LETTERS: u8 = b'a' - 10;
 
 // Tests and no `match`: these become no branches, which digits that come in no order mispredict, and reading takes half the time.
+// No `Option`: the definition `digit` answers 16 where there is none, so that one test ends a run in either base.
 #[tactic(auto, unfolding(model::specs::Text::digit, model::specs::Check::within))]
 fn digit(b: u8) -> usize
     ensures { result ≡ digit b }

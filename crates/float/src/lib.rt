@@ -30,6 +30,7 @@ pub fn f32_from_bits(b: u32) -> f32
 }
 
 // A NaN has the pattern 7fc00000 here, and 7ff8000000000000 at 64 bits.
+// At each width by itself, as from bits.
 pub fn f32_to_bits(x: f32) -> u32
     ensures { result ≡ to_bits binary32 x }
 {
@@ -139,7 +140,8 @@ fn case_pattern(case: Narrowed) -> u32
     }
 }
 
-// Worked out on the pattern, since the cast `x as f32` is not supplied. The sign is kept.
+// Worked out on the pattern, by the cases that document 02's Card 4 asks for; std's nearest_f64_to_f32 would hide them.
+// The sign is kept.
 pub fn narrow(x: f64) -> f32
     ensures { result ≡ narrow x }
 {

@@ -8,6 +8,7 @@ use loops::loops;
 use model::Player;
 
 // Number 0 is the acceptance. Any other is a refusal, and loops and rest are 0.
+// No `Result`: C has this struct.
 #[repr(C)]
 #[derive(Clone, Copy)]
 pub struct HostLoops {

@@ -7,6 +7,7 @@ use model::limits::{MAX_CLIPS, MAX_PARAMETERS, MAX_STATES};
 use uses::uses;
 
 // Number 0 is the acceptance. Any other is a start's refusal, and no mark is set.
+// No `Result`: C has this struct.
 #[repr(C)]
 #[derive(Clone, Copy)]
 pub struct HostUses {

@@ -95,6 +95,8 @@ impl From<usize> for Kind {
     }
 }
 
+// A plan has these four words of every node. No enum with data: who knows the kind by a contract (`node_length`,
+// `synchronize_node`, `show_joint`) reads them as they stand, and would have to match against kinds that cannot be.
 #[derive(Clone, Copy)]
 pub struct Node {
     pub kind: Kind,
@@ -215,6 +217,7 @@ pub fn rate(numbers: &[f32], c: usize) -> f32
 }
 
 // Of a transition that the state has.
+// Two floats of their own: what reads words into a struct does not read these.
 pub fn numbers_at(numbers: &[f32], here: StateLayout, t: usize) -> TransitionNumbers
     requires { HasTransition here t }
     ensures { (plan : List ℕ) → InPlan plan here → result ≡ numbers_of plan numbers.now here.state t }

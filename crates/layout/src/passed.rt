@@ -93,6 +93,7 @@ impl<'a> Plan<'a> {
 }
 
 impl<'a> State<'a> {
+    // Nodes and conditions are read word by word: a trait with their sizes would have each list its fields as well.
     // Of a node that the state has.
     pub fn node(&self, i: usize) -> Node
         requires { i < self.now.here.nodes }

@@ -57,6 +57,7 @@ pub struct ClipInstance {
 }
 
 // A player's 'transition': none is under way, or one that began at `start` leads to a state and takes `duration` seconds.
+// No `Option`: document 01 prescribes this enum, Idle or Running.
 #[derive(Clone, Copy)]
 pub enum Transition {
     Idle,

@@ -56,6 +56,7 @@ fn check_state(plan: &[u16], at: usize, counts: Counts, clip_node: usize) -> Ans
 }
 
 // All states, the first of which begins at `from`.
+// As `Plan::state_layout`, with a check of each state between: a step for both would hand back four numbers at a time.
 pub fn check_states(plan: &[u16], from: usize, counts: Counts) -> Result<States, Refusal>
     requires { (from ≤ max_states_at)
         × (from ≡ state_at plan.now 0)

@@ -21,6 +21,7 @@ pub struct Counts {
 }
 
 // A word that is missing, or fails its test, is refused.
+// What is tested is told by a bool, since some tests are not of the word alone (`is_free`, `a != b`, `is_root`).
 pub fn word_is(plan: &[u16], reason: Reason, at: usize, ok: bool) -> Answer
     ensures { values result ≡ word_is plan.now (number_of reason) at ok }
 {
@@ -36,6 +37,7 @@ fn within(low: usize, x: usize, high: usize) -> bool
     low <= x && x <= high
 }
 
+// A line each over `word_is`, with the definitions' own test in its clause: for a range that would speak of bounds.
 pub fn word_within(plan: &[u16], reason: Reason, at: usize, low: usize, high: usize) -> Answer
     ensures { values result ≡ word_is plan.now (number_of reason) at (within low (word plan.now at) high) }
 {

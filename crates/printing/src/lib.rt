@@ -109,6 +109,7 @@ impl<'a> Writer<'a> {
         self.put_field(16, FLOAT_DIGITS, f32_to_bits(x) as usize);
     }
 
+    // A `for` of one line, as for joints, marks and instances: by a closure, its contract would have to say its room.
     pub fn put_floats(&mut self, floats: &[f32])
         requires { HasRoom (number_bytes * length floats.now) self.old }
         ensures { WroteExactly (number_bytes * length floats.now)

@@ -54,6 +54,7 @@ fn play(plan: &[u16], numbers: &[f32], out: &mut [u8]) -> usize
 }
 
 // What is asked of a figure: by `gentianlathe` its first frame, by `inspect` what its verb says.
+// No closure: docs/PROOFS.md names `answer` of `Question::Frame`, and the theorem `frame_printed` speaks of it.
 #[derive(Drop)]
 pub enum Question {
     Frame,
@@ -71,6 +72,7 @@ fn show(question: Question, plan: &[u16], numbers: &[f32], out: &mut [u8]) -> us
 }
 
 // What is printed for a text, over the front of `out`, and how many bytes that is; the others are left.
+// `print_replay` begins alike, but answers an `io::Result`: one for both would need a closure's contract for both.
 pub fn answer(question: Question, text: &[u8], out: &mut [u8; MAX_PRINTED]) -> usize
     ensures { Front (printed_by (shown question) text.now) out.old out.new result }
 {

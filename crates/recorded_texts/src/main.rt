@@ -23,6 +23,7 @@ const TEXT_SIZE: usize = MAX_TEXT + 1;
 const MAX_DAMAGED: usize = 1024;
 
 // A text for the program, or one whose uses are asked: their headers have the same form.
+// The letter is made a `Question` where it is read, which `answer` takes.
 fn run_text<R: Read, W: Write>(input: &mut R, output: &mut W, header: &[u8]) -> Option<()> {
     let size = size_at(header, 5)?;
     if TEXT_SIZE < size {
@@ -55,6 +56,7 @@ fn run_damage<R: Read, W: Write>(input: &mut R, output: &mut W, header: &[u8]) -
 }
 
 // None at the end of the input, and at a case that is cut off or has no size.
+// The letter is asked where it is read: an enum of two would be made here and matched here.
 fn run_case<R: Read, W: Write>(input: &mut R, output: &mut W) -> Option<()> {
     let mut header = [0u8; HEADER_SIZE];
     input.read_exact(&mut header[..SHORT_HEADER_SIZE]).ok()?;
@@ -66,6 +68,7 @@ fn run_case<R: Read, W: Write>(input: &mut R, output: &mut W) -> Option<()> {
 }
 
 // A proved loop has to end, and nothing says that the input does.
+// The loop of recorded_lists too: shared, its three lines would be a public function's, with a closure's contract.
 fn main(rt: HostRuntime) {
     let mut input = rt.stdin();
     let mut output = rt.stdout();

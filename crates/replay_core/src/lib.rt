@@ -84,6 +84,7 @@ fn accepted(player: Player) -> CallDone
     })
 }
 
+// controller has the kind behind its two calls, which README names: a third public one would save this match alone.
 fn frame_of(
     plan: &[u16],
     numbers: &[f32],
@@ -197,6 +198,7 @@ pub fn begin(plan: &[u16], numbers: &[f32], out: &mut [u8; MAX_REPORT]) -> Begun
 }
 
 // The calls of the lines that are left, as long as there is room for a report.
+// No `for`: how many lines are left is handed back, so a counter would stand beside it.
 pub fn perform(
     plan: &[u16],
     numbers: &[f32],

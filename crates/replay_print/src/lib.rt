@@ -17,6 +17,7 @@ use std::io::{self, Write};
 // Room for the longest report and some others, which are printed at once.
 const BUFFER_SIZE: usize = 2 * MAX_REPORT;
 
+// Beside `print_front`, which lends a buffer of another size: this one is all that a refused figure needs.
 fn print_refusal<W: Write>(output: &mut W, refusal: Refusal) -> io::Result<()> {
     let mut out = [0u8; REFUSAL_SIZE];
     let mut w = Writer::new(&mut out);

@@ -138,6 +138,7 @@ fn upper_transposed(m: Matrix4) -> Matrix4
 }
 
 // A joint's own matrix, from its pose's. The kind of frame makes no other difference.
+// A match and no closure: all contracts above speak of the kind, so each would have to say which closure is its.
 fn own_matrix(kind: FrameKind, m: Matrix4) -> Matrix4
     ensures { result ≡ own_matrix kind m }
 {

@@ -25,6 +25,8 @@ fn put<W: Write>(to: &mut W, writer: Writer<'_>)
 }
 
 // The call's name is a line.
+// Each has a buffer of its own size, and all share `put`: one with that size and a closure would have to say in its
+// contract what room the closure is lent, which is more than the two lines that it saves.
 pub fn answer<W: Write>(to: &mut W, call: &[u8], answer: Answer) {
     text(to, call);
     let mut out = [0u8; REFUSAL_SIZE];
