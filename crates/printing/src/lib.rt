@@ -7,7 +7,8 @@ ghost use Rattle.model.specs.Answers.{number_of};
 ghost use Rattle.model.specs.Text.{comma};
 ghost use Rattle.model.specs.Plan.{max_joints, output_at};
 ghost use Rattle.model.specs.Program.{glyph, digits, places, decimal_fields, refused_line, joint_line, number_bytes};
-ghost use Rattle.printing.specs.Written.{HasRoom, Wrote, WroteUpTo, WroteExactly, float_fields, matrix_in, joint_lines};
+ghost use Rattle.printing.specs.Written.{HasRoom, Wrote, WroteUpTo, WroteExactly, Front};
+ghost use Rattle.printing.specs.Written.{float_fields, matrix_in, joint_lines};
 ghost use Rattle.printing.specs.Sizes.{max_digits, decimal_size, refusal_size, joint_size};
 
 use float::f32_to_bits;
@@ -154,4 +155,14 @@ impl<'a> Writer<'a> {
             self.put_joint(j, output);
         }
     }
+}
+
+// A refusal's line alone, over the front of `out`, and how many bytes that is; the others are left.
+pub fn put_only_refusal(refusal: Refusal, out: &mut [u8]) -> usize
+    requires { refusal_size ≤ length out.old }
+    ensures { Front (refused_line (number_of refusal.reason) refusal.place) out.old out.new result }
+{
+    let mut w = Writer::new(out);
+    w.put_refusal(refusal);
+    w.at
 }

@@ -2,10 +2,10 @@
 #![tactic(auto)]
 
 ghost use Rattle.std.specs.Prelude.{◌≡◌, ◌≤◌, length};
-ghost use Rattle.model.specs.Answers.{accepted, number_of};
+ghost use Rattle.model.specs.Answers.{accepted};
 ghost use Rattle.model.specs.Controller.{fresh};
 ghost use Rattle.model.specs.Run.{start_verdict};
-ghost use Rattle.model.specs.Program.{refused_line, played, figure_printed, printed_by};
+ghost use Rattle.model.specs.Program.{played, figure_printed, printed_by};
 ghost use Rattle.printing.specs.Written.{Front};
 ghost use Rattle.printing.specs.Sizes.{max_printed};
 ghost use Rattle.program.specs.Questions.{shown};
@@ -13,20 +13,10 @@ ghost use Rattle.program.specs.Questions.{shown};
 use controller::{frame, start};
 use inspect_uses::show_uses;
 use layout::{JOINT_COUNT_AT, MAX_PLAN, word};
+use model::Player;
 use model::limits::{MAX_NUMBERS, MAX_OUTPUT};
-use model::{Player, Refusal};
-use printing::{MAX_PRINTED, Writer};
+use printing::{MAX_PRINTED, Writer, put_only_refusal};
 use program_text::read_program_text;
-
-// A refusal's line alone.
-fn put_only_refusal(refusal: Refusal, out: &mut [u8]) -> usize
-    requires { max_printed ≤ length out.old }
-    ensures { Front (refused_line (number_of refusal.reason) refusal.place) out.old out.new result }
-{
-    let mut w = Writer::new(out);
-    w.put_refusal(refusal);
-    w.at
-}
 
 // One frame with ext 0 of a figure that was started.
 fn first_frame(plan: &[u16], numbers: &[f32], player: Player, out: &mut [u8]) -> usize

@@ -22,15 +22,25 @@ const TEXT_SIZE: usize = MAX_TEXT + 1;
 // The longest text that is damaged.
 const MAX_DAMAGED: usize = 1024;
 
+// The text behind a header, which has its size at a place; None where it is longer than `text`, or cut off.
+fn read_text<'a, R: Read>(
+    input: &mut R,
+    header: &[u8],
+    at: usize,
+    text: &'a mut [u8],
+) -> Option<&'a mut [u8]> {
+    let size = size_at(header, at)?;
+    if text.len() < size {
+        return None;
+    }
+    read_front(input, text, size).ok()
+}
+
 // A text for the program, or one whose uses are asked: their headers have the same form.
 // The letter is made a `Question` where it is read, which `answer` takes.
 fn run_text<R: Read, W: Write>(input: &mut R, output: &mut W, header: &[u8]) -> Option<()> {
-    let size = size_at(header, 5)?;
-    if TEXT_SIZE < size {
-        return None;
-    }
     let mut text = [0u8; TEXT_SIZE];
-    let text = read_front(input, &mut text, size).ok()?;
+    let text = read_text(input, header, 5, &mut text)?;
     let question = if header.starts_with(b"u") {
         Question::Uses
     } else {
@@ -44,12 +54,8 @@ fn run_text<R: Read, W: Write>(input: &mut R, output: &mut W, header: &[u8]) -> 
 }
 
 fn run_damage<R: Read, W: Write>(input: &mut R, output: &mut W, header: &[u8]) -> Option<()> {
-    let size = size_at(header, 7)?;
-    if MAX_DAMAGED < size {
-        return None;
-    }
     let mut text = [0u8; MAX_DAMAGED];
-    let text = read_front(input, &mut text, size).ok()?;
+    let text = read_text(input, header, 7, &mut text)?;
     let _ = output.write_all(header);
     print_damaged(output, text);
     Some(())
