@@ -23,6 +23,7 @@ const TEXT_SIZE: usize = MAX_TEXT + 1;
 const MAX_DAMAGED: usize = 1024;
 
 // A text for the program, or one whose uses are asked: their headers have the same form.
+// Input and output stay two parameters: a struct with its impl would be longer than what three functions pass on.
 fn run_text<R: Read, W: Write>(input: &mut R, output: &mut W, header: &[u8]) -> Option<()> {
     let size = size_at(header, 5)?;
     if TEXT_SIZE < size {
