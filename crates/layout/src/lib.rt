@@ -1,4 +1,4 @@
-// Where the words and numbers of a plan stand. `passed` has what is read of a plan that passed its check. No other crate adds up places; what each one is stands in model's Plan.
+// Where the words and numbers of a plan stand. `passed` has what is read of a plan that passed its check. Beside the check, no other crate adds up places of words; what each one is stands in model's Plan.
 // The plan is document 01's row of words, each count before what it counts: so it has places, and no slices of nodes.
 #![tactic(auto)]
 

@@ -11,7 +11,6 @@ use model::{Matrix4, Quaternion, Row};
 
 // inv_sqrt's first guess, on bit patterns. The Rust shifts and subtracts a signed number; here its top bit is copied
 // and the subtraction is u32's wrapping one, which gives the same 32 bits.
-// In two branches, as `shifted_bits` in its definition: by a signed shift there would be two casts to follow.
 pub fn first_guess(bits: u32) -> u32
     ensures { result ≡ first_guess bits }
 {

@@ -24,7 +24,6 @@ pub mod states;
 pub mod words;
 
 // Without what an acceptance hands back.
-// A match and no `map`: the edit answer_of_refused_accepted changes the arm of a refusal.
 pub fn answer_of<T: Copy>(checked: Result<T, Refusal>) -> Answer
     ensures { values result ≡ values checked }
 {
