@@ -19,6 +19,7 @@ use printing::{MAX_PRINTED, Writer, put_only_refusal};
 use program_text::read_program_text;
 
 // One frame with ext 0 of a figure that was started.
+// The plan and the numbers stay two parameters, here and below, as `start`, `frame` and `uses` take them.
 fn first_frame(plan: &[u16], numbers: &[f32], player: Player, out: &mut [u8]) -> usize
     requires { (start_verdict plan.now numbers.now ≡ accepted)
         × (player ≡ fresh plan.now numbers.now)
@@ -63,6 +64,7 @@ fn show(question: Question, plan: &[u16], numbers: &[f32], out: &mut [u8]) -> us
 
 // What is printed for a text, over the front of `out`, and how many bytes that is; the others are left.
 // `print_replay` begins alike, but answers an `io::Result`: one for both would need a closure's contract for both.
+// How many bytes, and not their slice: the promise `Front` is about all of `out`, what is left too.
 pub fn answer(question: Question, text: &[u8], out: &mut [u8; MAX_PRINTED]) -> usize
     ensures { Front (printed_by (shown question) text.now) out.old out.new result }
 {
