@@ -20,10 +20,9 @@ use program_text::read_program_text;
 
 // One frame with ext 0 of a figure that was started.
 // The plan and the numbers stay two parameters, here and below, as `start`, `frame` and `uses` take them.
-fn first_frame(plan: &[u16], numbers: &[f32], player: Player, out: &mut [u8]) -> usize
+fn first_frame(plan: &[u16], numbers: &[f32], player: Player, out: &mut [u8; MAX_PRINTED]) -> usize
     requires { (start_verdict plan.now numbers.now ≡ accepted)
-        × (player ≡ fresh plan.now numbers.now)
-        × (max_printed ≤ length out.old) }
+        × (player ≡ fresh plan.now numbers.now) }
     ensures { Front (played plan.now numbers.now accepted) out.old out.new result }
 {
     let mut floats = [0.0f32; MAX_OUTPUT];
@@ -33,8 +32,7 @@ fn first_frame(plan: &[u16], numbers: &[f32], player: Player, out: &mut [u8]) ->
     w.at
 }
 
-fn play(plan: &[u16], numbers: &[f32], out: &mut [u8]) -> usize
-    requires { max_printed ≤ length out.old }
+fn play(plan: &[u16], numbers: &[f32], out: &mut [u8; MAX_PRINTED]) -> usize
     ensures { Front (figure_printed plan.now numbers.now) out.old out.new result }
 {
     let begun = start(plan, numbers);
@@ -52,8 +50,7 @@ pub enum Question {
     Uses,
 }
 
-fn show(question: Question, plan: &[u16], numbers: &[f32], out: &mut [u8]) -> usize
-    requires { max_printed ≤ length out.old }
+fn show(question: Question, plan: &[u16], numbers: &[f32], out: &mut [u8; MAX_PRINTED]) -> usize
     ensures { Front (shown question plan.now numbers.now) out.old out.new result }
 {
     match question {
