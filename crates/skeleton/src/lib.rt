@@ -26,6 +26,7 @@ pub fn output_at(j: usize) -> usize
     MATRIX_FLOATS * j
 }
 
+#[tactic(auto, unfolding(model::specs::Rotations::identity_matrix))]
 fn identity_matrix() -> Matrix4
     ensures { result ≡ identity_matrix }
 {
@@ -111,6 +112,7 @@ fn parent_matrix(plan: &Plan<'_>, buffer: &[f32], j: usize) -> Matrix4
 }
 
 // The upper 3×3 transposed.
+#[tactic(auto, unfolding(model::specs::Skeleton::upper_transposed))]
 fn upper_transposed(m: Matrix4) -> Matrix4
     ensures { result ≡ upper_transposed m }
 {
@@ -138,6 +140,7 @@ fn upper_transposed(m: Matrix4) -> Matrix4
 }
 
 // A joint's own matrix, from its pose's. The kind of frame makes no other difference.
+#[tactic(auto, unfolding(model::specs::Skeleton::own_matrix))]
 fn own_matrix(kind: FrameKind, m: Matrix4) -> Matrix4
     ensures { result ≡ own_matrix kind m }
 {
