@@ -1,8 +1,7 @@
--- What the functions over blocks of joints need, over plain values: a loop that combines two blocks lane by lane, and the pose of a node
--- from its clip's samples or from those of its inputs. Assumes nothing.
-use Prim.Native.Nat.{ℕ, suc, ◌+◌, ◌-◌, ◌≤◌, ◌<◌}
+-- The pose of a node from its clip's samples or from those of its inputs, over plain values. Assumes nothing.
+use Prim.Native.Nat.{ℕ, suc, ◌-◌, ◌<◌}
 use native.Mathlib.Omega.{arith}
-use mathlib.Core.Path.{◌≡◌, refl, sym, ◌∙◌}
+use mathlib.Core.Path.{◌≡◌, sym, ◌∙◌}
 use mathlib.Core.Bool.{true}
 use mathlib.Core.List.{List}
 use lib.ListN.{get_or}
@@ -20,31 +19,10 @@ use Rattle.layout.specs.declared.StateLayout.{StateLayout}
 use Rattle.layout.specs.declared.Node.{Node}
 use Rattle.layout.specs.Layout.{node_of}
 use Rattle.layout.proofs.Laws.{here_ok, nodes_counted}
-use Rattle.lanes.specs.Lanes.{block_size, lane_at, LaneSet}
-use Rattle.lanes.proofs.Laws.{done_more, rest_less}
 use Rattle.blend_tree.specs.declared.StateAt.{StateAt}
 use Rattle.blend_tree.specs.Blocks.{pose_of_node}
 use Rattle.layout.proofs.NodeLaws.{NodeRead, no_clip, is_lerp_lem, no_lerp, inputs_before}
 use Rattle.blend_tree.proofs.NodeLaws.{passes}
-
--- ---- a loop that combines x's lanes with y's, one by one
-
--- the lanes below i are done, as R says of each, and the others are as at its entry
-pub record Combined (R : Pose → Pose → Pose → Type 0) (x₀ y : List Float) (i : ℕ) (x : List Float) : Type 0 where
-  pub done : (k : ℕ) → k < i → R (lane_at x₀ k) (lane_at y k) (lane_at x k)
-  pub rest : (k : ℕ) → i ≤ k → k < block_size → lane_at x k ≡ lane_at x₀ k
-
-module _ (R : Pose → Pose → Pose → Type 0) (x₀ y : List Float) where
-  pub combined_none : Combined R x₀ y 0 x₀
-  combined_none = record { done = λ k l. absurd (omega arith); rest = λ k l m. refl }
-
-  pub combined_more : {x x₁ : List Float} {i : ℕ} {p q r : Pose} → Combined R x₀ y i x → i < block_size → LaneSet x i r x₁
-      → p ≡ lane_at x i → q ≡ lane_at y i → R p q r → Combined R x₀ y (i + 1) x₁
-  combined_more {x} {x₁} {i} {p} {q} {r} before small set ep eq m =
-      record {
-        done = done_more set (λ k p. R (lane_at x₀ k) (lane_at y k) p) small before.done (rw (ep ∙ before.rest i (omega arith) small, eq) at m);
-        rest = rest_less set x₀ before.rest;
-      }
 
 -- ---- the pose of a node, from those of its inputs
 

@@ -9,11 +9,11 @@ use Rattle.lanes.specs.declared.Joints.{Joints}
 use Rattle.blend_tree.specs.declared.Source.{Source}
 
 -- lane i of the first `count` is the pose f i
-abbrev pub Filled : (ℕ → Pose) → ℕ → List Float → Type 0
+abbrev pub Filled : (ℕ → Pose) → ℕ → List Pose → Type 0
 Filled f count block = (i : ℕ) → i < count → lane_at block i ≡ f i
 
 -- the lanes are the poses that a row of joints has by f
-abbrev pub FilledFor : Joints → List Float → (ℕ → Pose) → Type 0
+abbrev pub FilledFor : Joints → List Pose → (ℕ → Pose) → Type 0
 FilledFor joints block f = Filled (λ i. f (joints.first + i)) joints.count block
 
 -- a block has room for this row of the plan's joints

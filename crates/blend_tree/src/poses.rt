@@ -1,17 +1,17 @@
 // Poses of a state's nodes, for many joints at once.
-ghost use Rattle.std.specs.Prelude.{◌≡◌, ℕ, ◌+◌, ◌<◌, ◌≤◌};
+ghost use Rattle.std.specs.Prelude.{◌≡◌, ◌<◌, ◌≤◌};
 ghost use Rattle.model.specs.Pose.{identity_pose};
 ghost use Rattle.model.specs.Tree.{additive};
 ghost use Rattle.model.specs.Plan.{clip_count};
 ghost use Rattle.model.specs.Clips.{local_time, clip_pose};
-ghost use Rattle.lanes.specs.Lanes.{block_size, lane_at};
+ghost use Rattle.lanes.specs.Lanes.{block_size};
 ghost use Rattle.blend_tree.specs.Sampling.{pose_between, Sampled};
 ghost use Rattle.blend_tree.specs.Blocks.{Filled, FilledFor, InBlock, node_pose_at, state_pose_at};
 
 use crate::sampling::{clip_at, clip_position, clip_samples};
 use crate::{Source, StateAt};
 use animation::{Position, instance_at, pose_between};
-use lanes::{BLOCK_FLOATS, Joints, lane, set_lane};
+use lanes::{BLANK, Block, Joints, combine_all};
 use layout::passed::Figure;
 use layout::{Kind, pose_at};
 use model::limits::POSE_FLOATS;
@@ -25,43 +25,17 @@ fn additive(a: Pose, b: Pose, p: f32) -> Pose
     concat(a, lerp(identity(), b, p))
 }
 
-// Each lane of x, combined with y's.
-pub fn combine_all<F: Fn(Pose, Pose) -> Pose>(
-    x: &mut [f32; BLOCK_FLOATS],
-    y: &[f32; BLOCK_FLOATS],
-    count: usize,
-    combine: F,
-)
-    requires small { count ≤ block_size }
-    requires callable { F.IsAlwaysCallable combine }
-    ensures { (i : ℕ) → i < count
-        → F.post combine (lane_at x.old i) (lane_at y.now i) (lane_at x.new i) }
-{
-    for i in 0..count {
-        let p = lane(x, i);
-        let q = lane(y, i);
-        set_lane(x, i, combine(p, q));
-    }
-}
-
 // The identity in each lane.
-fn identity_poses(count: usize, block: &mut [f32; BLOCK_FLOATS])
+fn identity_poses(count: usize, block: &mut Block)
     requires { count ≤ block_size }
     ensures { Filled (λ i. identity_pose) count block.new }
 {
-    for i in 0..count {
-        set_lane(block, i, identity());
-    }
+    block[..count].fill(identity());
 }
 
 // A clip, between two of its samples, whose places are worked out once: with `joint_pose` in each lane some sizes are
 // slower by a sixth.
-fn sampled_poses(
-    figure: &Figure<'_>,
-    samples: Position,
-    joints: Joints,
-    block: &mut [f32; BLOCK_FLOATS],
-)
+fn sampled_poses(figure: &Figure<'_>, samples: Position, joints: Joints, block: &mut Block)
     requires { Sampled figure.now samples × InBlock figure.now.plan.layout joints }
     ensures { FilledFor joints block.new
         (pose_between figure.now.numbers.now figure.now.plan.layout samples) }
@@ -73,19 +47,13 @@ fn sampled_poses(
     let factor = samples.factor;
     for i in 0..joints.count {
         let at = POSE_FLOATS * i;
-        set_lane(block, i, pose_between(numbers, low + at, high + at, factor));
+        block[i] = pose_between(numbers, low + at, high + at, factor);
     }
 }
 
 impl<'a> StateAt<'a> {
     // What an instance of clip c shows: without samples the identity itself, not a lerp of it.
-    fn clip_poses(
-        &self,
-        c: usize,
-        instance: ClipInstance,
-        joints: Joints,
-        block: &mut [f32; BLOCK_FLOATS],
-    )
+    fn clip_poses(&self, c: usize, instance: ClipInstance, joints: Joints, block: &mut Block)
         requires { (c < clip_count self.now.figure.plan.words.now)
             × InBlock self.now.figure.plan.layout joints }
         ensures { FilledFor joints block.new
@@ -105,7 +73,7 @@ impl<'a> StateAt<'a> {
 
 impl<'a> Source<'a> {
     // A node's poses come from those of its inputs, which are earlier nodes, down to clips.
-    fn node_poses(&self, joints: Joints, node: usize, block: &mut [f32; BLOCK_FLOATS])
+    fn node_poses(&self, joints: Joints, node: usize, block: &mut Block)
         requires { InBlock self.now.state.figure.plan.layout joints
             × (node < self.now.state.here.nodes) }
         ensures { FilledFor joints block.new (node_pose_at self.now node) }
@@ -116,7 +84,7 @@ impl<'a> Source<'a> {
             self.state.clip_poses(words.a, instance, joints, block);
             return;
         }
-        let mut other = [0.0f32; BLOCK_FLOATS];
+        let mut other = BLANK;
         self.node_poses(joints, words.a, block);
         self.node_poses(joints, words.b, &mut other);
         let factor = self.parameters[words.parameter];
@@ -133,7 +101,7 @@ impl<'a> Source<'a> {
     }
 
     // The poses of the state: those of its tree's root, which is its last node.
-    pub fn state_poses(&self, joints: Joints, block: &mut [f32; BLOCK_FLOATS])
+    pub fn state_poses(&self, joints: Joints, block: &mut Block)
         requires { InBlock self.now.state.figure.plan.layout joints }
         ensures { FilledFor joints block.new (state_pose_at self.now) }
     {

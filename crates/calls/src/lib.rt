@@ -65,7 +65,8 @@ pub struct Malformed {
 
 // ---- a line, from some place of it on
 
-// A cursor of its own beside that of text::lines, whose form document 01 prescribes: it walks over names and 64-bit floats too.
+// A cursor of its own beside that of text::lines, whose form document 01 prescribes: it walks over names and 64-bit
+// floats too.
 #[derive(Clone, Copy)]
 struct Cursor<'a> {
     text: &'a [u8],

@@ -4,7 +4,7 @@
 use Rattle.std.specs.Prelude.{ℕ, ◌*◌}
 use Rattle.std.specs.Float.{binary32, binary64}
 use Rattle.std.proofs.Math.Option.{Option, none, some}
-use mir.Syntax.{Ty, Tys, ty_int, ty_bool, ty_float, ty_array, ty_struct, tnil, tcons, w64}
+use mir.Syntax.{Ty, ty_int, ty_bool, ty_float, ty_array, ty_struct, tnil, tcons, w64}
 use prog.Memory.{size, field_of}
 use Rattle.model.specs.Plan.{max_parameters, max_clip_nodes, max_states, max_clips}
 use Rattle.model.specs.BenchText.{bytes}

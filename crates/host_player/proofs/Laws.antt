@@ -4,8 +4,9 @@ use mathlib.Core.Path.{◌≡◌, refl, sym, ap, ◌∙◌}
 use mathlib.Core.List.{List}
 use lib.ListN.{length}
 use lib.Ieee.{Float}
-use Rattle.model.specs.declared.Answer.{Answer}
-use Rattle.model.specs.declared.Answer.TheVariants as answer
+use Rattle.std.specs.Prelude.{Ok, Err}
+use Rattle.model.specs.declared.Refusal.{Refusal}
+use Rattle.model.proofs.Laws.Exits.{never}
 use Rattle.model.specs.declared.Outcome.{Outcome}
 use Rattle.model.specs.declared.Player.{Player}
 use Rattle.model.specs.declared.FrameKind.{FrameKind}
@@ -28,12 +29,6 @@ use Rattle.host_player.specs.HostParts.{host_of, UnpackedParts, PackedParts}
 pub between : (f : HostPlayer) {p q : Player} {r : HostPlayer} (call : Player → Player) → p ≡ unpacked f → q ≡ call p → r ≡ packed q → r ≡ packed (call (unpacked f))
 between f call e h k = k ∙ ap packed (h ∙ ap call e)
 
--- an answer that is not `Accepted` accepts nothing
-never : (a : Answer) → (a ≡ answer.Accepted → ⊥) → values a ≡ accepted → ⊥
-unfolding values
-never answer.Accepted t e = t refl
-never (answer.Refused r) t e = absurd cc
-
 kept : {X : Type 0} (v : Verdict) (new old : X) → (v ≡ accepted → ⊥) → unless_refused v new old ≡ old
 unfolding unless_refused
 kept accepted new old h = absurd (h refl)
@@ -46,12 +41,12 @@ after_accepted v p q f e h = rw e (ap packed (rw e at h))
 -- ---- set
 
 module _ (f : HostPlayer) (n : ℕ) (v : Float) (o : Outcome) (done : ParameterSet (unpacked f) n v o) (a : HostAnswer) (told : a ≡ host_answer (values o.answer)) where
-  pub set_refused : (o.answer ≡ answer.Accepted → ⊥) → HostParameterSet f n v f a
-  set_refused t = record { answer = told ∙ ap host_answer done.answer; player = sym (kept _ _ f (λ e. never o.answer t (done.answer ∙ e))) }
+  pub set_refused : (e : Refusal) → o.answer ≡ Err e → HostParameterSet f n v f a
+  set_refused x is = record { answer = told ∙ ap host_answer done.answer; player = sym (kept _ _ f (λ e. never (Unit {0}) x (sym (ap values is) ∙ done.answer ∙ e))) }
 
-  pub set_accepted : o.answer ≡ answer.Accepted → (q : HostPlayer) → q ≡ packed o.player → HostParameterSet f n v q a
+  pub set_accepted : (x : Unit {0}) → o.answer ≡ Ok x → (q : HostPlayer) → q ≡ packed o.player → HostParameterSet f n v q a
   unfolding values
-  set_accepted e q h = record { answer = told ∙ ap host_answer done.answer; player = h ∙ after_accepted _ _ _ f (sym done.answer ∙ ap values e) done.player }
+  set_accepted x e q h = record { answer = told ∙ ap host_answer done.answer; player = h ∙ after_accepted _ _ _ f (sym done.answer ∙ ap values e) done.player }
 
 -- ---- frame and page frame
 
@@ -65,17 +60,17 @@ module _ {kind : FrameKind} {plan : List ℕ} {numbers : List Float} (flat : Hos
   on_unpacked : Framed kind plan numbers (unpacked f) ext old new (outcome_of before frame ps after)
   on_unpacked = rw same at done
 
-  pub frame_refused : (frame.answer ≡ answer.Accepted → ⊥) → HostFramed kind plan numbers f ext old new (host_of flat ps after) a
+  pub frame_refused : (e : Refusal) → frame.answer ≡ Err e → HostFramed kind plan numbers f ext old new (host_of flat ps after) a
   unfolding unpacked
-  frame_refused t =
-      let no : frame_verdict plan numbers (unpacked f) (length old) ≡ accepted → ⊥ = λ e. never frame.answer t (on_unpacked.answer ∙ e) in
+  frame_refused x told_err =
+      let no : frame_verdict plan numbers (unpacked f) (length old) ≡ accepted → ⊥ = λ e. never (Unit {0}) x (sym (ap values told_err) ∙ on_unpacked.answer ∙ e) in
       let left : after ≡ is = ap (λ (q : Player). q.instances) (on_unpacked.player ∙ kept _ _ _ no) in
       record { answer = told ∙ ap host_answer on_unpacked.answer; player = rw left (sym (kept _ _ f no)); output = on_unpacked.output }
 
-  pub frame_accepted : frame.answer ≡ answer.Accepted → (r : HostParts) → PackedParts (moved before frame.state frame.transition) r
+  pub frame_accepted : (x : Unit {0}) → frame.answer ≡ Ok x → (r : HostParts) → PackedParts (moved before frame.state frame.transition) r
       → HostFramed kind plan numbers f ext old new (host_of r ps after) a
   unfolding values
-  frame_accepted e r packs = record {
+  frame_accepted x e r packs = record {
     answer = told ∙ ap host_answer on_unpacked.answer;
     player = packs ps after ∙ after_accepted _ _ _ f (sym on_unpacked.answer ∙ ap values e) on_unpacked.player;
     output = on_unpacked.output;

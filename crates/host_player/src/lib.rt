@@ -235,12 +235,12 @@ pub fn parameter_set(flat: HostPlayer, parameter: usize, value: f32) -> HostOutc
     ensures { HostParameterSet flat parameter value result.player result.answer }
 {
     let outcome = set(Player::from(flat), parameter, value);
-    if outcome.answer.is_err() {
+    let Ok(()) = outcome.answer else {
         return HostOutcome {
             answer: HostAnswer::from(outcome.answer),
             player: flat,
         };
-    }
+    };
     HostOutcome::from(outcome)
 }
 
@@ -274,9 +274,9 @@ pub fn host_frame(
         kind, plan, numbers, before, parameters, instances, ext, output,
     );
     let answer = HostAnswer::from(frame.answer);
-    if frame.answer.is_err() {
+    let Ok(()) = frame.answer else {
         return HostFrame { answer, parts };
-    }
+    };
     let after = Parts {
         state: frame.state,
         transition: frame.transition,

@@ -21,13 +21,19 @@ pub fn host_uses(plan: &[u16], numbers: &[f32]) -> HostUses
     ensures { HostUsesFound plan.now numbers.now result }
 {
     match uses(plan, numbers) {
-        Ok(found) => HostUses {
-            number: 0,
-            place: 0,
-            states: found.states,
-            parameters: found.parameters,
-            clips: found.clips,
-        },
+        Ok(found) => {
+            // Today's check asks for a variable where an array goes from one struct to another.
+            let states = found.states;
+            let parameters = found.parameters;
+            let clips = found.clips;
+            HostUses {
+                number: 0,
+                place: 0,
+                states,
+                parameters,
+                clips,
+            }
+        }
         Err(refusal) => HostUses {
             number: refusal.reason.number(),
             place: refusal.place,

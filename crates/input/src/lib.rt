@@ -1,7 +1,8 @@
 // Reading a reader, as standard input or a file, to its end.
 #![tactic(auto)]
 
-ghost use Rattle.std.specs.Prelude.{◌≤◌, length, IfOk};
+ghost use Rattle.std.specs.Prelude.{◌<◌, ◌≤◌, length, take, IfOk};
+ghost use Rattle.std.specs.Io.KnownBytes.{Consumes, IsAtEnd};
 
 use std::io::{self, Read};
 
@@ -11,10 +12,13 @@ const MOST_FAILURES: usize = 100;
 // Reads until `text` is full or the input ends, and answers how many bytes that were; what is interrupted or short is
 // read on. Where it gives up, the error is the last read's.
 pub fn read_input<R: Read>(reader: &mut R, text: &mut [u8]) -> io::Result<usize>
-    ensures { IfOk result (λ count. count ≤ length text.old) }
+    ensures within { IfOk result (λ count. count ≤ length text.old) }
+    ensures bytes { IfOk result (λ count. Consumes (R.remaining reader.old) (R.remaining reader.new) (take count text.new)) }
+    ensures end { IfOk result (λ count. count < length text.old → IsAtEnd (R.remaining reader.new)) }
 {
     let mut done = 0;
     let mut failures = 0;
+    // No `for`: a turn goes on by as many bytes as were read, and a failed one by none.
     while done < text.len() {
         match reader.read(&mut text[done..]) {
             Ok(0) => break,

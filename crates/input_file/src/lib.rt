@@ -63,13 +63,9 @@ pub fn has_argument(rt: &impl Env, i: usize) -> bool {
 pub fn or_complain<T>(rt: &HostRuntime, what: &[u8], tried: io::Result<T>) -> Option<T>
     ensures { MatchResult tried (λ x. result ≡ Some x) (λ _. result ≡ None) }
 {
-    match tried {
-        Ok(x) => Some(x),
-        Err(error) => {
-            complain(&mut rt.stderr(), what, error);
-            None
-        }
-    }
+    tried
+        .inspect_err(|error| complain(&mut rt.stderr(), what, *error))
+        .ok()
 }
 
 // The library opens files by names in UTF-8.

@@ -50,7 +50,7 @@ module _ {kind : FrameKind} {plan : List ℕ} {joints : ℕ} {pose_of : ℕ → 
   through_none = record { so_far = refl; kept = refl; most = omega arith }
 
   module _ {new : List Float} {first : ℕ} (t : Through kind plan joints pose_of old new first) where
-    pub through_next : {block after : List Float} {count next : ℕ} → GlobalPoses kind plan block first count new after
+    pub through_next : {block : List Pose} {after : List Float} {count next : ℕ} → GlobalPoses kind plan block first count new after
         → Filled (λ i. pose_of (first + i)) count block → length after ≡ length new → first + count ≡ next → next ≤ joints → Through kind plan joints pose_of old after next
     through_next g f e n m = record { so_far = rw n at (g.written pose_of f old t.so_far); kept = e ∙ t.kept; most = m }
 

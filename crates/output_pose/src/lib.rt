@@ -12,11 +12,10 @@ ghost use Rattle.output_pose.specs.Shown.{skeleton_of, shown_pose};
 ghost use Rattle.output_pose.specs.Shown.{JointShown, TargetSynchronized, Blended, Shown};
 
 use animation::instance_at;
-use blend_tree::poses::combine_all;
 use blend_tree::sampling::{clip_at, clip_position, clip_samples, joint_pose};
 use blend_tree::{SLOTS, Source, StateAt};
 use float::{narrow, widen};
-use lanes::{BLOCK_FLOATS, BLOCK_SIZE, Joints};
+use lanes::{BLANK, BLOCK_SIZE, Block, Joints, combine_all};
 use layout::passed::Figure;
 use model::limits::{MAX_INSTANCES, MAX_PARAMETERS};
 use model::{ClipInstance, FrameKind, Pose, Transition};
@@ -37,7 +36,7 @@ pub fn shown_poses(
     source: &Source<'_>,
     target: Option<&Target<'_>>,
     joints: Joints,
-    block: &mut [f32; BLOCK_FLOATS],
+    block: &mut Block,
 )
     requires { InBlock source.now.state.figure.plan.layout joints
         × IfSome target (λ t. InBlock t.now.source.state.figure.plan.layout joints) }
@@ -47,7 +46,7 @@ pub fn shown_poses(
     let Some(target) = target else {
         return;
     };
-    let mut other = [0.0f32; BLOCK_FLOATS];
+    let mut other = BLANK;
     target.source.state_poses(joints, &mut other);
     let factor = target.factor;
     combine_all(block, &other, joints.count, move |a, b| lerp(a, b, factor));
@@ -69,7 +68,7 @@ fn show_blocks(
 {
     let plan = &source.state.figure.plan;
     let total = plan.layout.joints;
-    let mut block = [0.0f32; BLOCK_FLOATS];
+    let mut block = BLANK;
     for first in (0..total).step_by(BLOCK_SIZE) {
         let joints = Joints {
             first,

@@ -73,16 +73,16 @@ module _ {plan : List ℕ} {at k : ℕ} (so_far : Counted plan at k) where
     nodes_stop A e told = more A e _ _ (more A e _ _ (more A e _ _ (told ∙ sym (then_accepted _ _ so_far.passes)))) ∙ sym state_parts
 
     -- then the nodes are looked for among the marks
-    module _ (marks : List Bool) (nodes : values {A = List Bool} (Ok marks) ≡ each k (check_node plan s)) (mark : Marks plan s k marks) {A : Type 0} (a : Result A Refusal) (told : values a ≡ each (k - 1) (λ j. require (get_or marks j false) 4 at)) where
+    module _ (marks : List Bool) {N : Type 0} (x : N) (nodes : values {A = N} (Ok x) ≡ each k (check_node plan s)) (mark : Marks plan s k marks) {A : Type 0} (a : Result A Refusal) (told : values a ≡ each (k - 1) (λ j. require (get_or marks j false) 4 at)) where
       three : values a ≡ tree_of plan s at k
       three =
-          told ∙ each_same _ _ (k - 1) (λ j h. rw (mark.mark j (omega (arith, nodes_between)))) ∙ sym (then_accepted _ _ (then_accepted _ _ so_far.passes ∙ passed marks _ nodes))
+          told ∙ each_same _ _ (k - 1) (λ j h. rw (mark.mark j (omega (arith, nodes_between)))) ∙ sym (then_accepted _ _ (then_accepted _ _ so_far.passes ∙ passed x _ nodes))
 
       pub inputs_stop : (e : Refusal) → a ≡ Err e → values a ≡ check_state plan s
       inputs_stop e q = rw q (more A e _ _ (more A e _ _ (rw q at three))) ∙ sym state_parts
 
-      pub is_tree : (x : A) → a ≡ Ok x → tree_of plan s at k ≡ accepted
-      is_tree x q = passed x _ (rw q at three)
+      pub is_tree : (y : A) → a ≡ Ok y → tree_of plan s at k ≡ accepted
+      is_tree y q = passed y _ (rw q at three)
 
     -- and where they are a tree, T is next
     module _ (tree : tree_of plan s at k ≡ accepted) {A : Type 0} (a : Result A Refusal) (told : values a ≡ word_is plan 2 (at + 1 + 4 * k) (leb (word plan (at + 1 + 4 * k)) max_transitions)) where

@@ -74,9 +74,9 @@ pub record Marks (plan : List ℕ) (s i : ℕ) (marks : List Bool) : Type 0 wher
   pub mark : (k : ℕ) → k < max_nodes → get_or marks k false ≡ used plan s i k
 
 -- the first k nodes of the state that begins so, with their marks where all pass
-pub record NodesChecked (plan : List ℕ) (at n k : ℕ) (r : Result (List Bool) Refusal) : Type 0 where
+pub record NodesChecked (plan : List ℕ) (at n k : ℕ) (marks : List Bool) (r : Result Unit Refusal) : Type 0 where
   pub answer : (s : ℕ) → Begins plan s at n → values r ≡ each k (check_node plan s)
-  pub marks : (s : ℕ) → Begins plan s at n → IfOk r (Marks plan s k)
+  pub marked : (s : ℕ) → Begins plan s at n → IfOk r (λ _. Marks plan s k marks)
 
 -- the state that begins so
 pub record StateChecked (plan : List ℕ) (at n : ℕ) (r : Result Unit Refusal) : Type 0 where

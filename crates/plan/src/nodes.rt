@@ -9,11 +9,11 @@ ghost use Rattle.plan.specs.Parts.{CountsOf, HasInputs, NodesChecked};
 use crate::words::{Counts, word_below, word_is, word_up_to};
 use layout::{Kind, NODE_WORDS, word};
 use model::limits::{MAX_CLIP_NODES, MAX_NODES};
-use model::{Answer, Reason, Refusal};
+use model::{Answer, Reason};
 
 // A mark for each node, and one more: a power of two of bytes is copied without overlap, which makes the whole check
 // twice as fast.
-const MARKS: usize = MAX_NODES + 1;
+pub const MARKS: usize = MAX_NODES + 1;
 
 // A node by its number in its state: the word of its kind, and the number that it has if it is a clip.
 #[derive(Clone, Copy)]
@@ -75,19 +75,17 @@ fn check_node(plan: &[u16], node: NodePlace, counts: Counts, used: &[bool; MARKS
 }
 
 // The marks after the node whose kind is the word `at`.
-fn marked(plan: &[u16], at: usize, used: [bool; MARKS]) -> [bool; MARKS]
+fn mark(plan: &[u16], at: usize, used: &mut [bool; MARKS])
     requires { (at ≤ max_word) × HasInputs plan.now at }
-    ensures { result ≡ marks_after plan.now at used }
+    ensures { used.new ≡ marks_after plan.now at used.old }
 {
-    let mut marks = used;
     match Kind::from(word(plan, at)) {
         Kind::Clip => {}
         Kind::Lerp | Kind::Additive => {
-            marks[word(plan, at + 1)] = true;
-            marks[word(plan, at + 2)] = true;
+            used[word(plan, at + 1)] = true;
+            used[word(plan, at + 2)] = true;
         }
     }
-    marks
 }
 
 // The clip node after that node.
@@ -101,21 +99,22 @@ fn counted(plan: &[u16], at: usize, clip_node: usize) -> usize
     }
 }
 
-// The first n nodes of the state whose K is the word `at`, and their marks.
+// The first n nodes of the state whose K is the word `at`. Their marks are left in `used`.
 pub fn check_nodes(
     plan: &[u16],
     at: usize,
     n: usize,
     counts: Counts,
     first_clip_node: usize,
-) -> Result<[bool; MARKS], Refusal>
+    used: &mut [bool; MARKS],
+) -> Answer
     requires { (at + 1 + 4 * n ≤ max_word)
         × (n ≤ max_nodes)
         × (first_clip_node ≤ max_plan)
         × CountsOf plan.now counts }
-    ensures { NodesChecked plan.now at first_clip_node n result }
+    ensures { NodesChecked plan.now at first_clip_node n used.new result }
 {
-    let mut used = [false; MARKS];
+    *used = [false; MARKS];
     let mut clip_node = first_clip_node;
     for i in 0..n {
         let node = NodePlace {
@@ -123,17 +122,17 @@ pub fn check_nodes(
             at: at + 1 + NODE_WORDS * i,
             clip_node,
         };
-        check_node(plan, node, counts, &used)?;
-        used = marked(plan, node.at, used);
+        check_node(plan, node, counts, used)?;
+        mark(plan, node.at, used);
         clip_node = counted(plan, node.at, clip_node);
     }
-    Ok(used)
+    Ok(())
 }
 
 // The first n nodes are inputs; else the refusal is at the place of K.
-pub fn check_used(used: [bool; MARKS], n: usize, place: usize) -> Answer
+pub fn check_used(used: &[bool; MARKS], n: usize, place: usize) -> Answer
     requires { n ≤ max_nodes }
-    ensures { values result ≡ each n (λ k. require (get_or used k false) 4 place) }
+    ensures { values result ≡ each n (λ k. require (get_or used.now k false) 4 place) }
 {
     for k in 0..n {
         if !used[k] {

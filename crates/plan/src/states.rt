@@ -5,7 +5,7 @@ ghost use Rattle.model.specs.Text.{max_word};
 ghost use Rattle.model.specs.Plan.{max_states, max_states_at, max_plan, state_at};
 ghost use Rattle.plan.specs.Parts.{CountsOf, check_transition_at, StateChecked, StatesChecked};
 
-use crate::nodes::{check_nodes, check_used};
+use crate::nodes::{MARKS, check_nodes, check_used};
 use crate::words::{Counts, word_below, word_up_to, word_within};
 use layout::{NODE_WORDS, TRANSITION_WORDS, word};
 use model::limits::{MAX_NODES, MAX_TRANSITIONS};
@@ -46,8 +46,9 @@ fn check_state(plan: &[u16], at: usize, counts: Counts, clip_node: usize) -> Ans
 {
     word_within(plan, Reason::Count, at, 1, MAX_NODES)?;
     let nodes = word(plan, at);
-    let used = check_nodes(plan, at, nodes, counts, clip_node)?;
-    check_used(used, nodes - 1, at)?;
+    let mut used = [false; MARKS];
+    check_nodes(plan, at, nodes, counts, clip_node, &mut used)?;
+    check_used(&used, nodes - 1, at)?;
     let transitions_at = at + 1 + NODE_WORDS * nodes;
     word_up_to(plan, Reason::Count, transitions_at, MAX_TRANSITIONS)?;
     let n = word(plan, transitions_at);

@@ -2,10 +2,10 @@
 #![tactic(auto)]
 
 ghost use Rattle.std.specs.Prelude.{◌≡◌, ◌≤◌, length};
-ghost use Rattle.model.specs.Answers.{accepted};
+ghost use Rattle.model.specs.Answers.{accepted, number_of};
 ghost use Rattle.model.specs.Controller.{fresh};
 ghost use Rattle.model.specs.Run.{start_verdict};
-ghost use Rattle.model.specs.Program.{played, figure_printed, printed_by};
+ghost use Rattle.model.specs.Program.{refused_line, played, figure_printed, printed_by};
 ghost use Rattle.printing.specs.Written.{Front};
 ghost use Rattle.printing.specs.Sizes.{max_printed};
 ghost use Rattle.program.specs.Questions.{shown};
@@ -13,10 +13,20 @@ ghost use Rattle.program.specs.Questions.{shown};
 use controller::{frame, start};
 use inspect_uses::show_uses;
 use layout::{JOINT_COUNT_AT, MAX_PLAN, word};
-use model::Player;
 use model::limits::{MAX_NUMBERS, MAX_OUTPUT};
-use printing::{MAX_PRINTED, put_joints, put_refusal};
+use model::{Player, Refusal};
+use printing::{MAX_PRINTED, Writer};
 use program_text::read_program_text;
+
+// A refusal's line alone.
+fn put_only_refusal(refusal: Refusal, out: &mut [u8]) -> usize
+    requires { max_printed ≤ length out.old }
+    ensures { Front (refused_line (number_of refusal.reason) refusal.place) out.old out.new result }
+{
+    let mut w = Writer::new(out);
+    w.put_refusal(refusal);
+    w.at
+}
 
 // One frame with ext 0 of a figure that was started.
 fn first_frame(plan: &[u16], numbers: &[f32], player: Player, out: &mut [u8]) -> usize
@@ -27,7 +37,9 @@ fn first_frame(plan: &[u16], numbers: &[f32], player: Player, out: &mut [u8]) ->
 {
     let mut floats = [0.0f32; MAX_OUTPUT];
     frame(plan, numbers, player, 0.0, &mut floats);
-    put_joints(out, 0, word(plan, JOINT_COUNT_AT), &floats)
+    let mut w = Writer::new(out);
+    w.put_joints(word(plan, JOINT_COUNT_AT), &floats);
+    w.at
 }
 
 fn play(plan: &[u16], numbers: &[f32], out: &mut [u8]) -> usize
@@ -36,7 +48,7 @@ fn play(plan: &[u16], numbers: &[f32], out: &mut [u8]) -> usize
 {
     let begun = start(plan, numbers);
     match begun.answer {
-        Err(refusal) => put_refusal(out, 0, refusal),
+        Err(refusal) => put_only_refusal(refusal, out),
         Ok(()) => first_frame(plan, numbers, begun.player, out),
     }
 }
@@ -65,7 +77,7 @@ pub fn answer(question: Question, text: &[u8], out: &mut [u8; MAX_PRINTED]) -> u
     let mut plan = [0u16; MAX_PLAN];
     let mut numbers = [0.0f32; MAX_NUMBERS];
     match read_program_text(text, &mut plan, &mut numbers) {
-        Err(refused) => put_refusal(out, 0, refused),
+        Err(refusal) => put_only_refusal(refusal, out),
         Ok(read) => show(question, &plan[..read.words], &numbers[..read.numbers], out),
     }
 }

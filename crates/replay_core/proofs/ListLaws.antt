@@ -9,15 +9,18 @@ use lib.Dec.{ltb}
 use lib.ListN.{length, drop}
 use lib.Ieee.{Float}
 use borrow.Author.Tests.{lt-ltb, le-ltb}
+use Rattle.std.specs.Prelude.{Option}
 use Rattle.model.specs.declared.Player.{Player}
 use Rattle.model.specs.Run.{Call}
-use Rattle.printing.specs.Written.{Written}
+use Rattle.printing.specs.declared.Writer.{Writer}
+use Rattle.printing.specs.Written.{Wrote}
 use Rattle.printing.proofs.Laws.{nothing_written, more_written, front_written}
 use Rattle.calls.specs.declared.CallAt.{CallAt}
 use Rattle.calls.specs.CallText.{CallLine, line, call_in, calls, read_calls}
-use Rattle.calls.specs.Read.{line_read, call_at}
+use Rattle.calls.specs.Read.{line_read, call_at, end_of}
 use Rattle.calls.proofs.Laws.{first_call}
 use Rattle.replay_core.specs.declared.CallDone.{CallDone}
+use Rattle.replay_core.specs.declared.Left.{Left}
 use Rattle.replay_core.specs.declared.Progress.{Progress}
 use Rattle.replay_core.specs.Replay.{report_from, player_after}
 use Rattle.replay_core.specs.Replaying.{max_report, Called, call_text, line_after, line_report}
@@ -29,7 +32,7 @@ module _ (plan : List ℕ) (numbers : List Float) (text : List ℕ) where
   abbrev next : ℕ → ℕ → ℕ → Player → List ℕ → Performance
   next room n at p shown =
       let here = call_in (drop at text) in
-      performed plan numbers text room n (call_at text at).end (line_after plan numbers p here)
+      performed plan numbers text room n (end_of (call_at text at)) (line_after plan numbers p here)
       (shown ++ line_report plan numbers p here)
 
   -- ---- the loop
@@ -59,45 +62,44 @@ module _ (plan : List ℕ) (numbers : List Float) (text : List ℕ) where
             let less : suc m - 1 ≡ m = omega arith in
             rw (le-ltb room (length shown + max_report) h, less)
 
-  module _ (at lines : ℕ) (p : Player) (before : List ℕ) where
-    -- all but `left` lines are performed
-    pub record Performed (out : List ℕ) (here left : ℕ) (q : Player) (end : ℕ) : Type 0 where
+  -- from some lines on, which a writer puts into a slice that it begins
+  module _ (from : Left) (start : Writer) where
+    -- all but what is left is performed
+    pub record Performed (w : Writer) (left : Left) : Type 0 where
       pub shown : List ℕ
-      pub put : Written before 0 shown out end
-      pub inside : end ≤ length before
-      pub same : performed plan numbers text (length before) lines at p []
-          ≡ performed plan numbers text (length before) left here q shown
+      pub put : Wrote shown start w
+      pub inside : w.at ≤ length start.out.now
+      pub same : performed plan numbers text (length start.out.now) from.lines from.at from.player []
+          ≡ performed plan numbers text (length start.out.now) left.lines left.at left.player shown
 
-    pub nothing_performed : Performed before at lines p 0
-    nothing_performed = record { shown = []; put = nothing_written _ _; inside = omega arith; same = refl }
+    pub nothing_performed : start.at ≡ 0 → Performed start from
+    nothing_performed first = record { shown = []; put = nothing_written _; inside = omega arith; same = refl }
 
-    pub next_performed : {out after : List ℕ} {floats : List Float} {here left end behind : ℕ} {q : Player}
-        {r : CallAt} {d : CallDone}
-        → Performed out here left q end → 0 < left → end + max_report ≤ length before → r ≡ call_at text here
-        → line_read text r ≡ call_in (drop here text) → Called plan numbers q r.call floats d
-        → Written out end (call_text d floats) after behind → behind ≤ end + max_report
-        → Performed after r.end (left - 1) d.player behind
-    unfolding line_read
-    next_performed {here = here} {q = q} {r = r} so_far some room there read called put longest =
-        let rest = drop r.end text in
-        let shown = called.text rest ∙ ap (line_report plan numbers q) read in
-        let moved = called.player rest ∙ ap (line_after plan numbers q) read in
-        let end = ap (λ (x : CallAt). x.end) there in
-        let on = goes_on (length before) _ here q so_far.shown some (omega (arith, so_far.put.ended)) in
+    pub next_performed : {w v : Writer} {left : Left} {floats : List Float} {r : Option CallAt} {d : CallDone} {end : ℕ}
+        → start.at ≡ 0 → Performed w left → 0 < left.lines → w.at + max_report ≤ length start.out.now → r ≡ call_at text left.at
+        → line_read text r ≡ call_in (drop left.at text) → Called plan numbers left.player (line_read text r) floats d → end ≡ end_of r
+        → Wrote (call_text d floats) w v → v.at ≤ w.at + max_report
+        → Performed v (record { player = d.outcome.player; at = end; lines = left.lines - 1 })
+    next_performed {left = left} first so_far some room there read called place put longest =
+        let p = left.player in
+        let shown = called.text ∙ ap (line_report plan numbers p) read in
+        let moved = called.player ∙ ap (line_after plan numbers p) read in
+        let end = place ∙ ap end_of there in
+        let on = goes_on (length start.out.now) _ left.at p so_far.shown some (omega (arith, so_far.put.moved)) in
         record {
-          shown = so_far.shown ++ line_report plan numbers q (call_in (drop here text));
+          shown = so_far.shown ++ line_report plan numbers p (call_in (drop left.at text));
           put = rw shown at (more_written so_far.put put);
           inside = omega arith;
           same = so_far.same ∙ rw (moved, end) on;
         }
 
-    pub performing : {out : List ℕ} (r : Progress) → Performed out r.at r.lines r.player r.length
-        → (r.lines ≡ 0) ⊎ (length before < r.length + max_report)
-        → Performing (performed plan numbers text (length before) lines at p []) before out r
-    performing r so_far stop =
-        let ended : r.length ≡ length so_far.shown = omega (arith, so_far.put.ended) in
-        let all = so_far.same ∙ stops (length before) _ _ _ so_far.shown (rw ended at stop) in
-        rw all (record { progress = rw (← ended); front = front_written so_far.put so_far.inside })
+    pub performing : {w : Writer} {left : Left} {before after : List ℕ} → start.out.now ≡ before → start.at ≡ 0 → Performed w left
+        → (left.lines ≡ 0) ⊎ (length start.out.now < w.at + max_report) → after ≡ w.out.now
+        → Performing (performed plan numbers text (length before) from.lines from.at from.player []) before after (record { left = left; length = w.at })
+    performing {w} {left} held first so_far stop now =
+        let ended : w.at ≡ length so_far.shown = omega (arith, so_far.put.moved) in
+        let all = so_far.same ∙ stops (length start.out.now) _ _ _ so_far.shown (rw ended at stop) in
+        rw (← held, all) (record { progress = rw (← ended); front = front_written so_far.put refl first so_far.inside now })
 
   -- ---- what follows
 
@@ -114,13 +116,13 @@ module _ (plan : List ℕ) (numbers : List Float) (text : List ℕ) where
 
   pub fewer : (at lines : ℕ) (p : Player) {before after : List ℕ} {r : Progress}
       → Performing (performed plan numbers text (length before) lines at p []) before after r
-      → max_report ≤ length before → 0 < lines → r.lines < lines
+      → max_report ≤ length before → 0 < lines → r.left.lines < lines
   fewer at lines p {before = before} done room some =
       let on = goes_on (length before) lines at p [] some room in
-      let e = ap (λ (x : Progress). x.lines) done.progress ∙ ap (λ (x : Performance). x.lines) on in
+      let e = ap (λ (x : Progress). x.left.lines) done.progress ∙ ap (λ (x : Performance). x.lines) on in
       let here = call_in (drop at text) in
       let q = line_after plan numbers p here in
-      omega (arith, no_more (length before) (lines - 1) (call_at text at).end q (line_report plan numbers p here))
+      omega (arith, no_more (length before) (lines - 1) (end_of (call_at text at)) q (line_report plan numbers p here))
 
   -- the first of some calls, by its line
   module _ (p : Player) {cs later : List Call} {c : Call} {l : CallLine} {behind : List ℕ}

@@ -27,9 +27,9 @@ module _ (plan : List ℕ) (numbers : List Float) (text : List ℕ) where
   steps_shown (ended {at = at}) cs e = let none = no_calls (drop at text) e in (rw none, rw none)
   steps_shown (step {at} {lines} {p} {before = before} {after = out} {r = r} done more) cs e =
       let left = rest plan numbers text (length before) lines at p [] cs e in
-      let here = ap (λ (x : Progress). x.at) done.progress in
-      let lines_left = ap (λ (x : Progress). x.lines) done.progress in
-      let moved = ap (λ (x : Progress). x.player) done.progress in
+      let here = ap (λ (x : Progress). x.left.at) done.progress in
+      let lines_left = ap (λ (x : Progress). x.left.lines) done.progress in
+      let moved = ap (λ (x : Progress). x.left.player) done.progress in
       let later = steps_shown more left.left (rw (lines_left, here) left.read) in
       (left.report ∙ rw (front_text done.front, ← later.0, moved), left.player ∙ rw (← moved) later.1)
 

@@ -1,16 +1,14 @@
 -- What the functions of this crate ensure. Definitions only.
-use Rattle.std.specs.Prelude.{ℕ, zero, suc, ◌+◌, ◌≤◌, ◌≡◌, cond, List, [], ◌++◌, length, take, drop, ltb, Float}
-use Rattle.model.specs.declared.Answer.{Answer}
+use Rattle.std.specs.Prelude.{ℕ, zero, suc, ◌+◌, ◌≤◌, ◌≡◌, cond, List, [], ◌++◌, length, take, drop, ltb, Float, None}
+use Rattle.model.specs.declared.Outcome.{Outcome}
 use Rattle.model.specs.declared.Player.{Player}
 use Rattle.model.specs.Answers.{accepted, values, unless_refused}
 use Rattle.model.specs.Plan.{max_joints, joint_count}
 use Rattle.model.specs.Run.{Call, call_verdict, after, chosen_floats, observation, start_player}
 use Rattle.printing.specs.Written.{Front, joint_lines}
 use Rattle.printing.specs.Sizes.{refusal_size, max_printed}
-use Rattle.calls.specs.declared.Call as Read
 use Rattle.calls.specs.CallText.{CallLine, malformed, line, call_in}
-use Rattle.calls.specs.Read.{line_of, call_at}
-use Rattle.report.specs.declared.Told.{Told}
+use Rattle.calls.specs.Read.{call_at, end_of}
 use Rattle.report.specs.Report.{below, matrix_lines, answer_line, player_text, observation_text, told_text, told_values}
 use Rattle.report.specs.Sizes.{player_size, told_size}
 use Rattle.replay_core.specs.declared.CallDone.{CallDone}
@@ -24,17 +22,14 @@ max_report = refusal_size + player_size + max_printed + told_size
 
 -- ---- one call
 
--- a call that has no matrices to show
-pub record NothingShown (a : Answer) (p : Player) (t : Told) (r : CallDone) : Type 0 where
-  pub answer : r.answer ≡ a
-  pub player : r.player ≡ p
-  pub joints : r.joints ≡ 0
-  pub told : r.told ≡ t
+-- a call that has no matrices to show and is told nothing
+abbrev pub nothing_shown : Outcome → CallDone
+nothing_shown outcome = record { outcome = outcome; joints = 0; told = None }
 
 -- what is put for a call
 unfoldable pub call_text : CallDone → List Float → List ℕ
 call_text r floats =
-    answer_line (values r.answer) ++ player_text r.player ++ joint_lines r.joints floats ++
+    answer_line (values r.outcome.answer) ++ player_text r.outcome.player ++ joint_lines r.joints floats ++
     told_text (told_values r.told)
 
 module _ (plan : List ℕ) (numbers : List Float) (p : Player) where
@@ -44,8 +39,8 @@ module _ (plan : List ℕ) (numbers : List Float) (p : Player) where
 
   -- its answer, its player, the floats that hold the matrices to be shown, and what it is told
   pub record Done (c : Call) (floats : List Float) (r : CallDone) : Type 0 where
-    pub answer : values r.answer ≡ call_verdict plan numbers p c
-    pub player : r.player ≡ after plan numbers p c
+    pub answer : values r.outcome.answer ≡ call_verdict plan numbers p c
+    pub player : r.outcome.player ≡ after plan numbers p c
     pub few : r.joints ≤ max_joints
     pub shown : joint_lines r.joints floats ≡ matrix_lines (all_shown c)
     pub told : told_values r.told ≡ told_if_accepted plan numbers p c
@@ -59,11 +54,11 @@ module _ (plan : List ℕ) (numbers : List Float) (p : Player) where
   line_report malformed = observation_text (observation accepted p [])
   line_report (line c rest) = call_report plan numbers p c
 
-  -- the call of a line that was read, whatever stands behind the line
-  pub record Called (call : Read.Call) (floats : List Float) (r : CallDone) : Type 0 where
+  -- the call of a line that was read
+  pub record Called (l : CallLine) (floats : List Float) (r : CallDone) : Type 0 where
     pub few : r.joints ≤ max_joints
-    pub player : (rest : List ℕ) → r.player ≡ line_after (line_of call rest)
-    pub text : (rest : List ℕ) → call_text r floats ≡ line_report (line_of call rest)
+    pub player : r.outcome.player ≡ line_after l
+    pub text : call_text r floats ≡ line_report l
 
 -- ---- a list
 
@@ -86,11 +81,11 @@ module _ (plan : List ℕ) (numbers : List Float) (text : List ℕ) (room : ℕ)
   performed (suc n) at p shown =
       let here = call_in (drop at text) in
       cond (ltb room (length shown + max_report)) (record { player = p; at = at; lines = suc n; shown = shown })
-      (performed n (call_at text at).end (line_after plan numbers p here) (shown ++ line_report plan numbers p here))
+      (performed n (end_of (call_at text at)) (line_after plan numbers p here) (shown ++ line_report plan numbers p here))
 
 -- the whole outcome of performing lines
 pub record Performing (all : Performance) (before after : List ℕ) (r : Progress) : Type 0 where
-  pub progress : r ≡ record { player = all.player; at = all.at; lines = all.lines; length = length all.shown }
+  pub progress : r ≡ record { left = record { player = all.player; at = all.at; lines = all.lines }; length = length all.shown }
   pub front : Front all.shown before after r.length
 
 module _ (plan : List ℕ) (numbers : List Float) (text : List ℕ) where
@@ -99,4 +94,4 @@ module _ (plan : List ℕ) (numbers : List Float) (text : List ℕ) where
     ended : {at : ℕ} {p : Player} → Steps at 0 p [] p
     step : {at lines : ℕ} {p q : Player} {before after shown : List ℕ} {r : Progress}
         → Performing (performed plan numbers text (length before) lines at p []) before after r
-        → Steps r.at r.lines r.player shown q → Steps at lines p (take r.length after ++ shown) q
+        → Steps r.left.at r.left.lines r.left.player shown q → Steps at lines p (take r.length after ++ shown) q

@@ -2,102 +2,86 @@
 // output, part by part.
 #![tactic(auto)]
 
-ghost use Rattle.std.specs.Prelude.{◌≤◌, length};
+ghost use Rattle.std.specs.Prelude.{ℕ, List, ◌≤◌, length};
+ghost use Rattle.std.specs.Fn.{FnOnceReturnsAtMut};
 
 use calls::check_calls;
 use layout::MAX_PLAN;
 use model::limits::MAX_NUMBERS;
-use model::{Player, Refusal, TextAnswer};
-use printing::{REFUSAL_SIZE, put_refusal};
+use model::{Player, Refusal};
+use printing::{REFUSAL_SIZE, Writer};
 use program_text::read_program_text;
-use replay_core::{MAX_REPORT, begin, finish, perform, put_malformed};
-use std::io::Write;
+use replay_core::{Left, MAX_REPORT, begin, finish, perform, put_malformed};
+use std::io::{self, Write};
 
 // Room for the longest report and some others, which are printed at once.
 const BUFFER_SIZE: usize = 2 * MAX_REPORT;
 
-// The bytes below `size`; false where they cannot be written.
-fn write_front<W: Write>(output: &mut W, bytes: &[u8], size: usize) -> bool
-    requires { size ≤ length bytes.now }
-{
-    output.write_all(&bytes[..size]).is_ok()
-}
-
-// The same for an array that was lent to a callee: of a parameter a proof knows the length by its type, of a lent array
-// it does not.
-fn write_array_front<W: Write>(output: &mut W, bytes: &[u8; MAX_REPORT], size: usize) -> bool
-    requires { size ≤ length bytes.now }
-{
-    write_front(output, bytes, size)
-}
-
-fn print_refusal<W: Write>(output: &mut W, refusal: Refusal) -> bool {
+fn print_refusal<W: Write>(output: &mut W, refusal: Refusal) -> io::Result<()> {
     let mut out = [0u8; REFUSAL_SIZE];
-    let size = put_refusal(&mut out, 0, refusal);
-    write_front(output, &out, size)
+    let mut w = Writer::new(&mut out);
+    w.put_refusal(refusal);
+    let size = w.at;
+    output.write_all(&out[..size])
 }
 
-fn print_malformed<W: Write>(output: &mut W, line: usize) -> bool {
+// What `put` puts over the front of a buffer.
+fn print_front<W: Write, P: FnOnce(&mut [u8; MAX_REPORT]) -> usize>(
+    output: &mut W,
+    put: P,
+) -> io::Result<()>
+    requires callable { P.IsAlwaysCallable put }
+    requires inside { (before after : List ℕ) (size : ℕ) → FnOnceReturnsAtMut P.FnOnce put before size after
+        → size ≤ length after }
+{
     let mut out = [0u8; MAX_REPORT];
-    let size = put_malformed(line, &mut out);
-    write_array_front(output, &out, size)
+    let size = put(&mut out);
+    output.write_all(&out[..size])
 }
 
-fn print_rest<W: Write>(output: &mut W, player: Player) -> bool {
+// The start, and the player of it.
+fn print_start<W: Write>(output: &mut W, plan: &[u16], numbers: &[f32]) -> io::Result<Player> {
     let mut out = [0u8; MAX_REPORT];
-    let size = finish(player, &mut out);
-    write_array_front(output, &out, size)
+    let begun = begin(plan, numbers, &mut out);
+    output.write_all(&out[..begun.length])?;
+    Ok(begun.player)
 }
 
-// The calls, as many at a time as the buffer holds reports of.
-fn print_calls<W: Write>(
+// A list of so many lines, as many of its calls at a time as the buffer holds reports of.
+fn print_list<W: Write>(
     output: &mut W,
     plan: &[u16],
     numbers: &[f32],
     calls: &[u8],
     lines: usize,
-    player: Player,
-) -> bool {
+) -> io::Result<()> {
+    let player = print_start(output, plan, numbers)?;
+    let mut left = Left {
+        player,
+        at: 0,
+        lines,
+    };
     let mut out = [0u8; BUFFER_SIZE];
-    let mut moved = player;
-    let mut at = 0;
-    let mut left = lines;
-    while left > 0 {
-        let progress = perform(plan, numbers, calls, at, left, moved, &mut out);
-        if !write_front(output, &out, progress.length) {
-            return false;
-        }
-        moved = progress.player;
-        at = progress.at;
-        left = progress.lines;
+    while left.lines > 0 {
+        let progress = perform(plan, numbers, calls, left, &mut out);
+        output.write_all(&out[..progress.length])?;
+        left = progress.left;
     }
-    print_rest(output, moved)
+    print_front(output, |out| finish(left.player, out))
 }
 
-fn print_list<W: Write>(output: &mut W, plan: &[u16], numbers: &[f32], calls: &[u8]) -> bool {
-    let checked = check_calls(calls);
-    if checked.malformed > 0 {
-        return print_malformed(output, checked.malformed);
-    }
-    let mut out = [0u8; MAX_REPORT];
-    let begun = begin(plan, numbers, &mut out);
-    if !write_array_front(output, &out, begun.length) {
-        return false;
-    }
-    let player = begun.player;
-    print_calls(output, plan, numbers, calls, checked.lines, player)
-}
-
-// False where the output cannot be written.
-pub fn print_replay<W: Write>(output: &mut W, figure: &[u8], calls: &[u8]) -> bool {
+// An error where the output cannot be written.
+pub fn print_replay<W: Write>(output: &mut W, figure: &[u8], calls: &[u8]) -> io::Result<()> {
     let mut plan = [0u16; MAX_PLAN];
     let mut numbers = [0.0f32; MAX_NUMBERS];
-    let read = read_program_text(figure, &mut plan, &mut numbers);
-    match read {
-        TextAnswer::Refused(refusal) => print_refusal(output, refusal),
-        TextAnswer::Accepted {
-            words,
-            numbers: count,
-        } => print_list(output, &plan[..words], &numbers[..count], calls),
+    let read = match read_program_text(figure, &mut plan, &mut numbers) {
+        Ok(read) => read,
+        Err(refusal) => return print_refusal(output, refusal),
+    };
+    let plan = &plan[..read.words];
+    let numbers = &numbers[..read.numbers];
+    match check_calls(calls) {
+        Ok(lines) => print_list(output, plan, numbers, calls, lines),
+        Err(malformed) => print_front(output, |out| put_malformed(malformed.line, out)),
     }
 }

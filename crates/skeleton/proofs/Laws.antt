@@ -176,7 +176,7 @@ module _ (kind : FrameKind) (pose_of : ℕ → Pose) where
         s,
       )
 
-module _ (kind : FrameKind) (block : List Float) (first : ℕ) where
+module _ (kind : FrameKind) (block : List Pose) (first : ℕ) where
   pub no_own : (before : List Float) → OwnMatrices kind block first 0 before before
   unfolding own_behind own_matrices flat
   no_own before = record { own = λ pose_of _ ms len old e. rw (add-zero first) e }
@@ -218,7 +218,7 @@ module _ (plan : List ℕ) (first count : ℕ) where
   through_all t = record { product = λ kind pose_of old e. rw (add-zero (first + count)) at (t.done kind pose_of old e 0 (add-zero (first + count))) }
 
 -- both loops, one after the other
-pub own_then_product : {kind : FrameKind} {plan : List ℕ} {block : List Float} {first count : ℕ} {before middle after : List Float}
+pub own_then_product : {kind : FrameKind} {plan : List ℕ} {block : List Pose} {first count : ℕ} {before middle after : List Float}
     → OwnMatrices kind block first count before middle → Multiplied plan first count middle after → GlobalPoses kind plan block first count before after
 unfolding joints_written joint_matrices
 own_then_product {first = first} o m = record {

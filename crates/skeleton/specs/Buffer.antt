@@ -48,7 +48,7 @@ unfoldable pub own_behind : FrameKind → (ℕ → Pose) → List Matrix4 → �
 own_behind kind pose_of ms j n old = flat ms ++ (flat (own_matrices kind pose_of j n) ++ drop (output_at (j + n)) old)
 
 -- those of `count` lanes are stored behind the first `first` matrices, whatever these are and the buffer held
-pub record OwnMatrices (kind : FrameKind) (block : List Float) (first count : ℕ) (before after : List Float) : Type 0 where
+pub record OwnMatrices (kind : FrameKind) (block : List Pose) (first count : ℕ) (before after : List Float) : Type 0 where
   pub own : (pose_of : ℕ → Pose) → ((i : ℕ) → i < count → lane_at block i ≡ pose_of (first + i)) → (ms : List Matrix4) → length ms ≡ first → (old : List Float)
       → before ≡ flat ms ++ drop (output_at first) old → after ≡ own_behind kind pose_of ms first count old
 
@@ -58,6 +58,6 @@ pub record Multiplied (plan : List ℕ) (first count : ℕ) (before after : List
       → before ≡ own_behind kind pose_of (joint_matrices kind plan pose_of first) first count old → after ≡ joints_written kind plan pose_of (first + count) old
 
 -- a block of `count` lanes is written behind the first `first` joints, whatever poses the joints have and the buffer held
-pub record GlobalPoses (kind : FrameKind) (plan : List ℕ) (block : List Float) (first count : ℕ) (before after : List Float) : Type 0 where
+pub record GlobalPoses (kind : FrameKind) (plan : List ℕ) (block : List Pose) (first count : ℕ) (before after : List Float) : Type 0 where
   pub written : (pose_of : ℕ → Pose) → ((i : ℕ) → i < count → lane_at block i ≡ pose_of (first + i)) → (old : List Float)
       → before ≡ joints_written kind plan pose_of first old → after ≡ joints_written kind plan pose_of (first + count) old

@@ -10,7 +10,7 @@ ghost use Rattle.model.specs.Skeleton.{upper_transposed, own_matrix};
 ghost use Rattle.lanes.specs.Lanes.{block_size};
 ghost use Rattle.skeleton.specs.Buffer.{row_from, matrix_from, row_floats, stored, parent_in, OwnMatrices, Multiplied, GlobalPoses};
 
-use lanes::{BLOCK_FLOATS, Joints, lane};
+use lanes::{Block, Joints};
 use layout::parent;
 use layout::passed::Plan;
 use math::product_row;
@@ -176,19 +176,14 @@ pub fn calculate_root_pose(kind: FrameKind, pose: Pose, output: &mut [f32])
 }
 
 // The own matrices of the block's lanes, each where its joint's matrix will stand.
-fn set_own_matrices(
-    kind: FrameKind,
-    block: &[f32; BLOCK_FLOATS],
-    joints: Joints,
-    output: &mut [f32],
-)
+fn set_own_matrices(kind: FrameKind, block: &Block, joints: Joints, output: &mut [f32])
     requires { (joints.count ≤ block_size)
         × (joints.first + joints.count ≤ max_joints)
         × (output_at (joints.first + joints.count) ≤ length output.old) }
     ensures { OwnMatrices kind block.now joints.first joints.count output.old output.new }
 {
     for i in 0..joints.count {
-        let own = own_matrix(kind, to_matrix(lane(block, i)));
+        let own = own_matrix(kind, to_matrix(block[i]));
         set_matrix(output, output_at(joints.first + i), own);
     }
 }
@@ -211,7 +206,7 @@ fn multiply_by_parents(plan: &Plan<'_>, joints: Joints, output: &mut [f32])
 pub fn calculate_global_poses(
     kind: FrameKind,
     plan: &Plan<'_>,
-    block: &[f32; BLOCK_FLOATS],
+    block: &Block,
     joints: Joints,
     output: &mut [f32],
 )

@@ -4,7 +4,7 @@ ghost use Rattle.model.specs.Plan.{max_joints, output_at};
 
 use model::limits::{MATRIX_FLOATS, NUMBER_BYTES};
 use model::{Answer, Outcome, Player};
-use printing::{MAX_PRINTED, REFUSAL_SIZE, put_floats, put_joints};
+use printing::{MAX_PRINTED, REFUSAL_SIZE, Writer};
 use report::{PLAYER_SIZE, put_answer, put_player};
 use std::io::Write;
 use test_io::write_front;
@@ -16,19 +16,29 @@ pub fn text<W: Write>(to: &mut W, s: &[u8]) {
     let _ = to.write_all(s);
 }
 
+// What was put by a writer.
+fn put<W: Write>(to: &mut W, writer: Writer<'_>)
+    requires { writer.at ≤ length writer.out.now }
+{
+    let size = writer.at;
+    let _ = write_front(to, writer.out, size);
+}
+
 // The call's name is a line.
 pub fn answer<W: Write>(to: &mut W, call: &[u8], answer: Answer) {
     text(to, call);
     let mut out = [0u8; REFUSAL_SIZE];
-    let size = put_answer(&mut out, 0, answer);
-    let _ = write_front(to, &out, size);
+    let mut writer = Writer::new(&mut out);
+    put_answer(&mut writer, answer);
+    put(to, writer);
 }
 
 // Clock, speed, state and transition.
 pub fn player<W: Write>(to: &mut W, player: Player) {
     let mut out = [0u8; PLAYER_SIZE];
-    let size = put_player(&mut out, 0, player);
-    let _ = write_front(to, &out, size);
+    let mut writer = Writer::new(&mut out);
+    put_player(&mut writer, player);
+    put(to, writer);
 }
 
 pub fn outcome<W: Write>(to: &mut W, call: &[u8], outcome: Outcome) {
@@ -41,8 +51,9 @@ pub fn joints<W: Write>(to: &mut W, count: usize, output: &[f32])
     requires { (count ≤ max_joints) × (output_at count ≤ length output.now) }
 {
     let mut out = [0u8; MAX_PRINTED];
-    let size = put_joints(&mut out, 0, count, output);
-    let _ = write_front(to, &out, size);
+    let mut writer = Writer::new(&mut out);
+    writer.put_joints(count, output);
+    put(to, writer);
 }
 
 // All floats of an output.
@@ -50,8 +61,9 @@ pub fn floats<W: Write>(to: &mut W, output: &[f32])
     requires { length output.now ≤ output_at 1 + 2 }
 {
     let mut out = [0u8; NUMBER_BYTES * MAX_FLOATS];
+    let mut writer = Writer::new(&mut out);
+    writer.put_floats(output);
     text(to, b"output");
-    let size = put_floats(&mut out, 0, output);
-    let _ = write_front(to, &out, size);
+    put(to, writer);
     text(to, b"\n");
 }

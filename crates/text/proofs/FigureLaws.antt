@@ -13,10 +13,13 @@ use Rattle.model.specs.declared.LineKind.TheVariants.{Clip, State, Node, Go}
 use Rattle.model.specs.Text.{max_word, front, forms, malformed, line_in, words_in, bits_in, Reading, bad, got, prefixed, and_then, times, from_line, read_line, from_state, read_state, read_end, read_words, samples_in}
 use Rattle.model.specs.Plan.{max_joints, max_clips, max_samples, clip_words, total}
 use Rattle.model.proofs.Laws.Totals.{total_same}
-use Rattle.std.specs.Prelude.{Ok, Err}
+use Rattle.std.specs.Prelude.{Result, Ok, Err}
 use Rattle.text.specs.declared.put.Progress.{Progress}
 use Rattle.text.specs.declared.put.Malformed.{Malformed}
 use Rattle.text.specs.Figures.{sampled, read_poses, read_motion}
+use Rattle.text.specs.declared.put.Reader.{Reader}
+use Rattle.text.specs.Readers.{RoomFor, ReadTo}
+use Rattle.text.proofs.ReaderLaws.{same_on, stops_at}
 use Rattle.text.specs.Steps.{InText, behind_line, with_word, LineAt, Put, Step, ReadAs}
 use Rattle.text.proofs.Laws.{put_more, put_word, put_behind, follows, goes, stops, moved_nothing}
 use Rattle.text.proofs.LineLaws.{next_of, line_read, line_bytes, line_values}
@@ -54,8 +57,8 @@ module _ {text values : List ℕ} {r : Progress} {at : ℕ} (l : LineAt State te
   unfolding forms words_in bits_in
   bytes = omega (arith, line_bytes l)
 
-  pub first_here : InText text first
-  first_here = let b = bytes in record { spent = omega (arith, l.here.spent); inside = l.inside }
+  pub first_room : RoomFor 1 0 (behind_line r at)
+  first_room = let b = bytes in omega (arith, l.here.spent)
 
   after_nodes : List ℕ → Reading
   after_nodes s = prefixed (transitions ∷ []) [] 0 (times transitions (read_line Go) s)
@@ -75,12 +78,12 @@ module _ {text values : List ℕ} {r : Progress} {at : ℕ} (l : LineAt State te
     nodes_read step a = rw (begun, line) at a
 
     -- the line had room for the count of transitions too
-    pub behind_here : (q : Progress) → ReadAs text f p₁ p₂ n₀ n₁ (Ok q) (times nodes (read_line Node) (drop f.at text)) → InText text (with_word q)
+    pub room_behind : (q : Progress) → ReadAs text f p₁ p₂ n₀ n₁ (Ok q) (times nodes (read_line Node) (drop f.at text)) → RoomFor 1 0 q
     unfolding ReadAs
-    behind_here q a = to (times nodes (read_line Node) (drop at text)) (nodes_read (Ok q) a)
+    room_behind q a = to (times nodes (read_line Node) (drop at text)) (nodes_read (Ok q) a)
       where
-        to : (x : Reading) → ReadAs text first p₁ p₂ n₀ n₁ (Ok q) x → InText text (with_word q)
-        to (got ws bs rest n) m = let b = bytes in record { spent = omega (arith, l.here.spent, m.put.words, m.put.numbers); inside = m.inside }
+        to : (x : Reading) → ReadAs text first p₁ p₂ n₀ n₁ (Ok q) x → RoomFor 1 0 q
+        to (got ws bs rest n) m = let b = bytes in omega (arith, l.here.spent, m.spent, m.line, m.put.words, m.put.numbers)
         to (bad n) m = absurd m
 
     module _ (p₀ : List ℕ) (put : p₁ ≡ sets p₀ h.words (nodes ∷ [])) where
@@ -171,18 +174,15 @@ sampled_sum text r q p₀ p₁ n₀ n₁ (bad n) count m a b = absurd a
 pub poses_fit : (m joints clips : ℕ) → m ≤ clips * max_samples → clips ≤ max_clips → joints ≤ max_joints → m * joints < 2 ^ 64
 poses_fit m joints clips h k l = let few : m ≤ 65536 = omega arith in omega (arith, mul-le-mul few l)
 
-module _ (text : List ℕ) (joints clips states : ℕ) (r : Progress) (p₀ p₁ : List ℕ) (n₀ n₁ : List Float) where
-  pub clips_stop : (m : Malformed) → ReadAs text r p₀ p₁ n₀ n₁ (Err m) (times clips (read_line Clip) (drop r.at text))
-      → ReadAs text r p₀ p₁ n₀ n₁ (Err m) (read_motion joints clips states (drop r.at text))
+module _ (joints clips states : ℕ) {B : Type 0} {a b : Reader} where
+  pub clips_stop : {m : Malformed} → ReadTo {A = ℕ} (times clips (read_line Clip)) a b (Err m) → ReadTo {A = B} (read_motion joints clips states) a b (Err m)
   unfolding read_motion
-  clips_stop m a = stops text r p₀ p₁ n₀ n₁ m (times clips (read_line Clip) (drop r.at text)) _ a
+  clips_stop t = stops_at _ t
 
   -- behind m samples come the states and m poses of each joint
-  pub clips_then : (q : Progress) (m : ℕ) (p₂ : List ℕ) (n₂ : List Float) (step : Step) → ReadAs text r p₀ p₁ n₀ n₁ (Ok q) (times clips (read_line Clip) (drop r.at text))
-      → sampled clips m (times clips (read_line Clip) (drop r.at text))
-      → ReadAs text q p₁ p₂ n₁ n₂ step (and_then (times states read_state (drop q.at text)) (λ _. read_poses (m * joints)))
-      → ReadAs text r p₀ p₂ n₀ n₂ step (read_motion joints clips states (drop r.at text))
+  pub clips_then : {c : Reader} {m : ℕ} {r : Result B Malformed} → ReadTo (times clips (read_line Clip)) a b (Ok m) → sampled clips m (times clips (read_line Clip) (drop a.progress.at a.text.now))
+      → ReadTo (λ s. and_then (times states read_state s) (λ _. read_poses (m * joints))) b c r → ReadTo (read_motion joints clips states) a c r
   unfolding read_motion
-  clips_then q m p₂ n₂ step a s b =
-      let sum = (sampled_sum text r q p₀ p₁ n₀ n₁ (times clips (read_line Clip) (drop r.at text)) clips m a s).0 in
-      goes text r q p₀ p₁ p₂ n₀ n₁ n₂ (times clips (read_line Clip) (drop r.at text)) _ step a (rw sum at b)
+  clips_then s few t =
+      let sum = (sampled_sum _ _ _ _ _ _ _ (times clips (read_line Clip) (drop a.progress.at a.text.now)) clips _ s.step few).0 in
+      record { same = same_on s.same t.same; step = goes _ _ _ _ _ _ _ _ _ (times clips (read_line Clip) (drop a.progress.at a.text.now)) _ _ s.step (rw sum at (rw s.same.text at t.step)) }

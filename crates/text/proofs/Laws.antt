@@ -1,8 +1,6 @@
 -- How steps of a reading follow one another, over plain values. Assumes nothing.
-use borrow.Author.Rules.{rules}
-use Prim.Native.Nat.{ℕ, zero, suc, ◌+◌, ◌-◌, ◌≤◌, ◌<◌}
-use native.Mathlib.Nat.{zero-add, add-zero, add-suc}
-use native.Mathlib.Numerals.{add-one}
+use Prim.Native.Nat.{ℕ, ◌+◌, ◌≤◌}
+use native.Mathlib.Nat.{zero-add}
 use native.Mathlib.Omega.{arith}
 use mathlib.Core.Path.{◌≡◌, refl, ◌∙◌}
 use mathlib.Core.List.{List, [], ◌∷◌, ◌++◌, map-append}
@@ -10,7 +8,7 @@ use Rattle.std.specs.Prelude.{Ok, Err}
 use lib.Ieee.{Float, binary32, of_bits}
 use lib.ListN.{length, drop, length-append, length-map}
 use lib.Seq.{sets, sets-eq}
-use Rattle.model.specs.Text.{Reading, bad, got, prefixed, and_then, times, floats_of, read_words}
+use Rattle.model.specs.Text.{Reading, bad, got, prefixed, and_then, floats_of, read_words}
 use Rattle.text.specs.declared.put.Progress.{Progress}
 use Rattle.text.specs.declared.put.Malformed.{Malformed}
 use Rattle.model.proofs.Laws.Stores.{sets-append}
@@ -91,47 +89,3 @@ module _ (text : List ℕ) (r q : Progress) (p₀ p₁ p₂ : List ℕ) (n₀ n�
   unfolding ReadAs and_then read_words
   goes (got ws bs rest n) next last a b = follows ws bs n last (next ws rest) (rw a.left at a) (rw a.left b)
   goes (bad n) next last a b = absurd a
-
--- ---- a loop of readings
-
--- what such a loop keeps before its reading i of count: the step of the first i, from r to q, in slices of the same lengths
-pub record Through (text : List ℕ) (read : List ℕ → Reading) (count : ℕ) (r : Progress) (p₀ : List ℕ) (n₀ : List Float)
-    (q : Progress) (p₁ : List ℕ) (n₁ : List Float) (i : ℕ) : Type 0 where
-  pub so_far : ReadAs text r p₀ p₁ n₀ n₁ (Ok q) (times i read (drop r.at text))
-  pub most : i ≤ count
-  pub plan : length p₁ ≡ length p₀
-  pub numbers : length n₁ ≡ length n₀
-
-module _ {text : List ℕ} {read : List ℕ → Reading} {count : ℕ} {r : Progress} {p₀ : List ℕ} {n₀ : List Float} where
-  pub through_none : InText text r → Through text read count r p₀ n₀ r p₀ n₀ 0
-  unfolding ReadAs times
-  through_none h = record { so_far = moved_nothing text r (drop r.at text) p₀ n₀ h refl; most = omega arith; plan = refl; numbers = refl }
-
-  module _ {q : Progress} {p₁ : List ℕ} {n₁ : List Float} {i : ℕ} (t : Through text read count r p₀ n₀ q p₁ n₁ i) where
-    pub through_here : InText text r → InText text q
-    through_here h = arrives text r q p₀ p₁ n₀ n₁ (times i read (drop r.at text)) t.so_far h
-
-    pub through_all : count ≤ i → ReadAs text r p₀ p₁ n₀ n₁ (Ok q) (times count read (drop r.at text))
-    through_all k = let e : count ≡ i = omega arith in rw e t.so_far
-
-    next : (p₂ : List ℕ) (n₂ : List Float) (step : Step) → ReadAs text q p₁ p₂ n₁ n₂ step (read (drop q.at text))
-        → ReadAs text r p₀ p₂ n₀ n₂ step (times (suc i) read (drop r.at text))
-    unfolding times
-    next p₂ n₂ step this = goes text r q p₀ p₁ p₂ n₀ n₁ n₂ (times i read (drop r.at text)) (λ _. read) step t.so_far this
-
-    pub through_next : i < count → (p₂ : List ℕ) (n₂ : List Float) (z : Progress) → ReadAs text q p₁ p₂ n₁ n₂ (Ok z) (read (drop q.at text))
-        → length p₂ ≡ length p₁ → length n₂ ≡ length n₁ → Through text read count r p₀ n₀ z p₂ n₂ (i + 1)
-    through_next less p₂ n₂ z this lp ln = record { so_far = rw add-one (next p₂ n₂ (Ok z) this); most = omega arith; plan = lp ∙ t.plan; numbers = ln ∙ t.numbers }
-
-    -- a bad line among the first i + 1 readings is the bad line of all
-    pub through_stops : i < count → (p₂ : List ℕ) (n₂ : List Float) (m : Malformed) → ReadAs text q p₁ p₂ n₁ n₂ (Err m) (read (drop q.at text))
-        → ReadAs text r p₀ p₂ n₀ n₂ (Err m) (times count read (drop r.at text))
-    unfolding times
-    through_stops less p₂ n₂ m this = let e : count ≡ suc i + (count - suc i) = omega arith in rw e (more (count - suc i))
-      where
-        more : (k : ℕ) → ReadAs text r p₀ p₂ n₀ n₂ (Err m) (times (suc i + k) read (drop r.at text))
-        more zero = rw add-zero (next p₂ n₂ (Err m) this)
-        more (suc k) = rw add-suc (stops text r p₀ p₂ n₀ n₂ m (times (suc i + k) read (drop r.at text)) (λ _. read) (more k))
-
--- with these `search` closes the needs of a loop that keeps `Through`
-pub ruleset through = (rules, through_none, through_here, through_all, through_next, through_stops)

@@ -6,7 +6,7 @@ use mathlib.Core.Path.{◌≡◌, refl, sym, ap, ◌∙◌}
 use mathlib.Core.Bool.{Bool, true, false}
 use mathlib.Core.List.{List, [], ◌∷◌, ◌++◌}
 use lib.Ieee.{Float}
-use lib.ListN.{length, get_or, take, drop, length-drop, length-take}
+use lib.ListN.{length, get_or, take, drop, length-drop, length-take, length-append}
 use lib.Seq.{sets, length-take-le, take-suc, take-length, take-append_seam, get_or-take}
 use lib.Dec.{T}
 use Rattle.std.proofs.lemmas.List.{get_or_default}
@@ -19,9 +19,10 @@ use Rattle.model.proofs.Laws.Text.{LineLaw, line_law}
 use Rattle.std.specs.Prelude.{Option, Some, None, Ok, Err}
 use Rattle.text.specs.declared.put.Progress.{Progress}
 use Rattle.text.specs.declared.put.Malformed.{Malformed}
-use Rattle.text.specs.LineFound.{max_fields, no_values, found_end, found_values, LineFound}
+use Rattle.text.specs.LineFound.{no_values, found_end, found_values, LineFound}
 use Rattle.text.proofs.FieldLaws.{fields_few, line_rest}
-use Rattle.text.specs.Steps.{InText, behind_line, with_word, with_number, Room, LineValues, LineAt, Put, Stays, ValuesPut, ReadAs}
+use Rattle.text.specs.Readers.{RoomFor}
+use Rattle.text.specs.Steps.{InText, behind_line, with_word, with_number, LineValues, LineAt, Put, Stays, ValuesPut, ReadAs}
 use Rattle.text.proofs.Laws.{at_front, put_more, put_nothing, put_word, put_behind}
 
 -- ---- what `line_at` found
@@ -96,6 +97,23 @@ bits_take (form ∷ fs) [] = refl
 bits_take (Decimal limit ∷ fs) (v ∷ vs) = bits_take fs vs
 bits_take (Bits ∷ fs) (v ∷ vs) = ap (◌∷◌ v) (bits_take fs vs)
 
+-- the first n fields have no more
+words_first : (fs : List FieldForm) (vs : List ℕ) (n : ℕ) → length (words_in (take n fs) vs) ≤ length (words_in fs vs)
+unfolding words_in
+words_first [] vs zero = omega arith
+words_first [] vs (suc n) = omega arith
+words_first (form ∷ fs) vs zero = omega arith
+words_first (Decimal limit ∷ fs) vs (suc n) = omega (arith, words_first fs (drop 1 vs) n)
+words_first (Bits ∷ fs) vs (suc n) = words_first fs (drop 1 vs) n
+
+bits_first : (fs : List FieldForm) (vs : List ℕ) (n : ℕ) → length (bits_in (take n fs) vs) ≤ length (bits_in fs vs)
+unfolding bits_in
+bits_first [] vs zero = omega arith
+bits_first [] vs (suc n) = omega arith
+bits_first (form ∷ fs) vs zero = omega arith
+bits_first (Decimal limit ∷ fs) vs (suc n) = bits_first fs (drop 1 vs) n
+bits_first (Bits ∷ fs) vs (suc n) = omega (arith, bits_first fs (drop 1 vs) n)
+
 -- where all fields are decimals the words are the values
 abbrev decimals : List FieldForm → Bool
 decimals [] = true
@@ -115,19 +133,27 @@ module _ {form : FieldForm} {limit : ℕ} (value : ℕ) (e : form ≡ Decimal li
   pub decimal_bounded : Bounded form value → value ≤ max_word
   decimal_bounded b = let w : Bounded (Decimal limit) value = rw e at b in omega (arith, w.1)
 
-  pub word_put : {r q : Progress} {p₀ p₁ : List ℕ} {n : List Float} → q ≡ with_word r → p₁ ≡ sets p₀ r.words (value ∷ [])
-      → ValuesPut (form ∷ []) (value ∷ []) r q p₀ p₁ n n
+  pub word_room : (r : Progress) → RoomFor (length (words_in (form ∷ []) (value ∷ []))) (length (bits_in (form ∷ []) (value ∷ []))) r → RoomFor 1 0 r
   unfolding words_in bits_in
-  word_put {r} {q} {p₀} {p₁} {n} f p = rw (e, f) (put_word value r p₀ p₁ n p, (refl, refl))
+  word_room r room = rw e at room
+
+  pub word_put : {r q : Progress} {p₀ p₁ : List ℕ} {n₀ n₁ : List Float} → q ≡ with_word r → p₁ ≡ sets p₀ r.words (value ∷ []) → n₁ ≡ n₀
+      → ValuesPut (form ∷ []) (value ∷ []) r q p₀ p₁ n₀ n₁
+  unfolding words_in bits_in
+  word_put {r} {q} {p₀} {p₁} {n₀} f p n = rw (e, f, n) (put_word value r p₀ p₁ n₀ p, (refl, refl))
 
 module _ {form : FieldForm} (value : ℕ) (e : form ≡ Bits) where
   pub bits_bounded : Bounded form value → value < 2 ^ 32
   bits_bounded b = rw e at b
 
-  pub number_put : {r q : Progress} {p : List ℕ} {n₀ n₁ : List Float} → q ≡ with_number r → n₁ ≡ sets n₀ r.numbers (floats_of (value ∷ []))
-      → ValuesPut (form ∷ []) (value ∷ []) r q p p n₀ n₁
+  pub number_room : (r : Progress) → RoomFor (length (words_in (form ∷ []) (value ∷ []))) (length (bits_in (form ∷ []) (value ∷ []))) r → RoomFor 0 1 r
   unfolding words_in bits_in
-  number_put f p = rw (e, f) (record { words = omega arith; numbers = refl; plan = refl; floats = p }, (refl, refl))
+  number_room r room = rw e at room
+
+  pub number_put : {r q : Progress} {p₀ p₁ : List ℕ} {n₀ n₁ : List Float} → q ≡ with_number r → p₁ ≡ p₀ → n₁ ≡ sets n₀ r.numbers (floats_of (value ∷ []))
+      → ValuesPut (form ∷ []) (value ∷ []) r q p₀ p₁ n₀ n₁
+  unfolding words_in bits_in
+  number_put f same p = rw (e, f, same) (record { words = omega arith; numbers = refl; plan = refl; floats = p }, (refl, refl))
 
 -- whatever stands past the last form
 pub bounded_at : {kind : LineKind} {values : List ℕ} → LineValues kind values → (k : ℕ) (d : FieldForm) → k < field_count kind → Bounded (get_or (forms kind) k d) (get_or values k 0)
@@ -146,12 +172,15 @@ module _ {kind : LineKind} {values : List ℕ} {r : Progress} {p₀ : List ℕ} 
   none_put = record { most = omega arith; put = put_nothing r p₀ n₀; stays = (refl, refl) }
 
   module _ {q : Progress} {p₁ : List ℕ} {n₁ : List Float} {k : ℕ} (f : FirstPut kind values r p₀ n₀ q p₁ n₁ k) where
-    pub room_left : k < field_count kind → Room max_fields r → Room 1 q
-    room_left h room =
-        let few = fields_few kind in
-        let n = values_count (take k (forms kind)) values in
+    pub room_left : k < field_count kind → (d : FieldForm) → RoomFor (length (words_in (forms kind) values)) (length (bits_in (forms kind) values)) r
+        → RoomFor (length (words_in (get_or (forms kind) k d ∷ []) (get_or values k 0 ∷ []))) (length (bits_in (get_or (forms kind) k d ∷ []) (get_or values k 0 ∷ []))) q
+    room_left h d room =
+        let form = get_or (forms kind) k d in
         let l = length-take-le k (forms kind) (omega arith) in
-        record { words = omega (arith, room.words, f.put.words); numbers = omega (arith, room.numbers, f.put.numbers) }
+        let more : take (suc k) (forms kind) ≡ take k (forms kind) ++ (form ∷ []) = take-suc (forms kind) k d h in
+        let w = rw (more, words_more, l, length-append) at (words_first (forms kind) values (suc k)) in
+        let b = rw (more, bits_more, l, length-append) at (bits_first (forms kind) values (suc k)) in
+        omega (arith, room, w, b, f.put.words, f.put.numbers, f.stays)
 
     pub next_put : k < field_count kind → (d : FieldForm) (z : Progress) (p₂ : List ℕ) (n₂ : List Float)
         → ValuesPut (get_or (forms kind) k d ∷ []) (get_or values k 0 ∷ []) q z p₁ p₂ n₁ n₂
@@ -186,8 +215,11 @@ module _ {kind : LineKind} {text values : List ℕ} {r : Progress} {at : ℕ} (l
   pub line_bytes : r.at + 3 + 2 * length (words_in (forms kind) values) + 9 * length (bits_in (forms kind) values) ≤ at
   line_bytes = omega (arith, rw (words_take, bits_take) at law.spent, length-drop r.at text, length-drop at text, l.here.inside, l.inside)
 
-  pub line_room : at < 2 ^ 64 → Room max_fields (behind_line r at)
-  line_room h = record { words = omega (arith, line_bytes, l.here.spent); numbers = omega (arith, line_bytes, l.here.spent) }
+  pub line_here : InText text (behind_line r at)
+  line_here = record { spent = omega (arith, line_bytes, l.here.spent); inside = l.inside }
+
+  pub line_room : RoomFor (length (words_in (forms kind) values)) (length (bits_in (forms kind) values)) (behind_line r at)
+  line_room = omega (arith, line_bytes, l.here.spent)
 
   -- ---- its reading, and its step
 

@@ -13,12 +13,15 @@ use Rattle.model.specs.declared.LineKind.TheVariants.{Figure, Joint}
 use Rattle.model.specs.declared.Refusal.{Refusal}
 use Rattle.model.specs.declared.Reason.{Reason}
 use Rattle.model.specs.declared.Reason.TheVariants.{Line, Room}
-use Rattle.std.specs.Prelude.{Ok, Err}
+use Rattle.std.specs.Prelude.{Result, Ok, Err}
 use Rattle.model.specs.Plan.{max_joints, max_clips, word, joint_count, clip_count, state_count}
 use Rattle.model.specs.Promises.{TextRead}
 use Rattle.model.specs.Text.{forms, Reading, bad, got, and_then, times, read_line, read_figure, text_values, text_verdict, accepted, refused, floats_of, overwritten, read_words, read_floats, when_accepted}
 use Rattle.text.specs.declared.put.Progress.{Progress}
 use Rattle.text.specs.declared.put.Malformed.{Malformed}
+use Rattle.text.specs.declared.put.Reader.{Reader}
+use Rattle.text.specs.Readers.{ReadTo}
+use Rattle.text.proofs.ReaderLaws.{same_on}
 use Rattle.text.specs.Figures.{begin, read_poses, read_motion, Judged}
 use Rattle.text.specs.Steps.{InText, LineAt, Step, ReadAs}
 use Rattle.text.proofs.Laws.{at_front, goes}
@@ -32,23 +35,26 @@ refusal reason place = record { reason = reason; place = place }
 pub begin_here : (text : List ℕ) → InText text begin
 begin_here text = record { spent = omega arith; inside = omega arith }
 
-module _ {text values : List ℕ} {at : ℕ} (l : LineAt Figure text values begin at) where
+module _ {text values : List ℕ} {r : Progress} {at : ℕ} (l : LineAt Figure text values r at) where
   pub header_limits : (get_or values 0 0 ≤ max_joints) × (get_or values 1 0 ≤ max_clips)
   unfolding forms
   header_limits = (((line_values l).bounded 0 (omega arith)).0, ((line_values l).bounded 1 (omega arith)).0)
 
-  count_in : (k : ℕ) → k < 5 → get_or (read_words (read_line Figure text)) k 0 ≡ get_or values k 0
+  count_in : (k : ℕ) → k < 5 → get_or (read_words (read_line Figure (drop r.at text))) k 0 ≡ get_or values k 0
   unfolding read_words forms
   count_in k h = rw (line_read l) (word_at (forms Figure) values tt k h)
 
-  module _ (q : Progress) (p₀ p₁ : List ℕ) (n₀ n₁ : List Float) (m : ReadAs text begin p₀ p₁ n₀ n₁ (Ok q) (read_line Figure text)) where
-    pub header_then : (p₂ : List ℕ) (n₂ : List Float) (step : Step)
-        → ReadAs text q p₁ p₂ n₁ n₂ step (and_then (times (get_or values 0 0) (read_line Joint) (drop q.at text)) (λ _. read_motion (get_or values 0 0) (get_or values 1 0) (get_or values 3 0)))
-        → ReadAs text begin p₀ p₂ n₀ n₂ step (read_figure text)
-    unfolding read_figure read_motion read_poses joint_count clip_count state_count word
-    header_then p₂ n₂ step b =
-        goes text begin q p₀ p₁ p₂ n₀ n₁ n₂ (read_line Figure text) _ step m
-        (rw (count_in 0 (omega arith), count_in 1 (omega arith), count_in 3 (omega arith)) b)
+pub header_then : {A B : Type 0} {a b c : Reader} {values : List ℕ} {at : ℕ} {u : A} {r : Result B Malformed} → LineAt Figure a.text.now values a.progress at
+    → ReadTo (read_line Figure) a b (Ok u)
+    → ReadTo (λ s. and_then (times (get_or values 0 0) (read_line Joint) s) (λ _. read_motion (get_or values 0 0) (get_or values 1 0) (get_or values 3 0))) b c r
+    → ReadTo read_figure a c r
+unfolding read_figure read_motion read_poses joint_count clip_count state_count word
+header_then {a = a} l s t =
+    record {
+      same = same_on s.same t.same;
+      step = goes _ _ _ _ _ _ _ _ _ (read_line Figure (drop a.progress.at a.text.now)) _ _ s.step
+          (rw (count_in l 0 (omega arith), count_in l 1 (omega arith), count_in l 3 (omega arith)) (rw s.same.text at t.step));
+    }
 
 -- ---- the first pass, which judges
 

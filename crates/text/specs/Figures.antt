@@ -1,25 +1,13 @@
 -- A figure's lines behind its joints, the sum of its clips' samples, and a text that passed. Definitions only.
-use Rattle.std.specs.Prelude.{ℕ, ◌*◌, ◌≤◌, ◌≡◌, List, length, Float, Result, Ok, Err}
+use Rattle.std.specs.Prelude.{ℕ, ◌*◌, ◌≤◌, ◌≡◌, List, length}
 use Rattle.model.specs.declared.LineKind.TheVariants.{Clip, Pose}
 use Rattle.model.specs.Plan.{max_samples, clip_words}
 use Rattle.model.specs.Text.{Reading, bad, got, and_then, times, read_line, read_state, read_end, samples_in}
 use Rattle.text.specs.declared.put.Progress.{Progress}
-use Rattle.text.specs.declared.put.Malformed.{Malformed}
-use Rattle.text.specs.declared.figure.Clips.{Clips}
-use Rattle.text.specs.Steps.{Step, ReadAs}
 
 -- nothing is read yet
 abbrev pub begin : Progress
 begin = record { at = 0; line = 0; words = 0; numbers = 0 }
-
--- a step that leaves all slices alone
-abbrev pub ended : List ℕ → Progress → Step → Reading → Type 0
-ended text r step read = (plan : List ℕ) → (numbers : List Float) → ReadAs text r plan plan numbers numbers step read
-
--- how far the clips came
-abbrev pub progress_of : Result Clips Malformed → Step
-progress_of (Ok clips) = Ok clips.progress
-progress_of (Err m) = Err m
 
 -- `count` clip lines have these words, and m is the sum of their samples
 unfoldable pub sampled : ℕ → ℕ → Reading → Type 0

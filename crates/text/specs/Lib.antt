@@ -1,4 +1,5 @@
 pub mod LineFound
 pub mod LineReading
 pub mod Steps
+pub mod Readers
 pub mod Figures

@@ -1,9 +1,9 @@
 -- What the reader's functions say of a text: of a row of lines. Definitions only.
-use Rattle.std.specs.Prelude.{ℕ, ◌+◌, ◌*◌, ◌≤◌, ◌<◌, ◌^◌, ◌≡◌, List, length, get_or, take, drop, Float, Result, Ok, Err}
+use Rattle.std.specs.Prelude.{ℕ, ◌+◌, ◌*◌, ◌≤◌, ◌<◌, ◌≡◌, List, length, get_or, take, drop, Float, Result, Ok, Err}
 use Rattle.std.proofs.lemmas.List.Edits.{sets}
 use Rattle.model.specs.declared.LineKind.{LineKind}
 use Rattle.model.specs.declared.FieldForm.{FieldForm}
-use Rattle.model.specs.Text.{field_count, form_of, words_in, bits_in, malformed, line, line_in, Reading, bad, got, floats_of}
+use Rattle.model.specs.Text.{field_count, form_of, words_in, bits_in, line, line_in, Reading, bad, got, floats_of}
 use Rattle.model.specs.Laws.Text.{Bounded}
 use Rattle.text.specs.declared.put.Progress.{Progress}
 use Rattle.text.specs.declared.put.Malformed.{Malformed}
@@ -28,11 +28,6 @@ with_word r = record { at = r.at; line = r.line; words = r.words + 1; numbers = 
 
 abbrev pub with_number : Progress → Progress
 with_number r = record { at = r.at; line = r.line; words = r.words; numbers = r.numbers + 1 }
-
--- so many values can be counted
-pub record Room (values : ℕ) (r : Progress) : Type 0 where
-  pub words : r.words + values < 2 ^ 64
-  pub numbers : r.numbers + values < 2 ^ 64
 
 -- a line's values stand in an array, each as its form bounds it
 pub record LineValues (kind : LineKind) (values : List ℕ) : Type 0 where
@@ -69,11 +64,6 @@ pub record Moved (text ws bs rest : List ℕ) (lines : ℕ) (r q : Progress)
 -- how far a step came, or the line that stopped it
 abbrev pub Step : Type 0
 Step = Result Progress Malformed
-
--- what is found of a line at r, with the values in front of an array: the place behind it, with nothing put yet
-abbrev pub LineRead : LineKind → List ℕ → List ℕ → Progress → Step → Type 0
-LineRead kind text values r (Ok q) = (q ≡ behind_line r q.at) × LineAt kind text values r q.at
-LineRead kind text values r (Err m) = (m.line ≡ r.line + 1) × (line_in kind (drop r.at text) ≡ malformed)
 
 -- what a step makes of a reading. After a bad line the slices are not spoken of
 unfoldable pub ReadAs : List ℕ → Progress → List ℕ → List ℕ → List Float → List Float → Step → Reading → Type 0

@@ -1,121 +1,14 @@
 // The lines of a figure in their order, and the call.
-ghost use Rattle.std.specs.Prelude.{◌≡◌, ◌≤◌, drop, IfOk};
-ghost use Rattle.model.specs.Plan.{max_joints, max_clips};
+ghost use Rattle.std.specs.Prelude.{◌≡◌};
 ghost use Rattle.model.specs.Promises.{TextRead};
-ghost use Rattle.model.specs.Text.{read_line, read_state, times, read_end, read_figure};
-ghost use Rattle.model.specs.declared.LineKind.TheVariants as LineKind;
-ghost use Rattle.text.specs.Steps.{InText, ReadBy};
-ghost use Rattle.text.specs.Figures.{sampled, progress_of, ended, read_poses, read_motion, begin, Judged};
+ghost use Rattle.model.specs.Text.{read_figure};
+ghost use Rattle.text.specs.Steps.{ReadBy};
+ghost use Rattle.text.specs.Figures.{begin};
 
 use crate::lines::MAX_FIELDS;
-use crate::put::{Malformed, Progress, behind_line, put_word, read_line, read_lines};
+use crate::put::{Malformed, Progress, Reader};
 use layout::{CLIP_COUNT_AT, JOINT_COUNT_AT, STATE_COUNT_AT};
 use model::{Lengths, LineKind, Reason, Refusal};
-
-// ---- states
-
-// The text has T beside K; the plan has it behind the nodes.
-fn read_state(
-    text: &[u8],
-    from: Progress,
-    plan: &mut [u16],
-    numbers: &mut [f32],
-) -> Result<Progress, Malformed>
-    requires { InText text.now from }
-    ensures { ReadBy read_state text.now from result
-        plan.old plan.new numbers.old numbers.new }
-{
-    let mut values = [0; MAX_FIELDS];
-    let behind = behind_line(text, LineKind::State, from, &mut values)?;
-    let nodes = values[0];
-    let transitions = values[1];
-    let first_node = put_word(plan, behind, nodes);
-    let after = read_lines(text, LineKind::Node, nodes, first_node, plan, numbers)?;
-    let first_go = put_word(plan, after, transitions);
-    read_lines(text, LineKind::Go, transitions, first_go, plan, numbers)
-}
-
-#[tactic(auto, using(crate::proofs::Laws::through))]
-fn read_states(
-    text: &[u8],
-    count: usize,
-    from: Progress,
-    plan: &mut [u16],
-    numbers: &mut [f32],
-) -> Result<Progress, Malformed>
-    requires { InText text.now from }
-    ensures { ReadBy (times count read_state) text.now from result
-        plan.old plan.new numbers.old numbers.new }
-{
-    let mut progress = from;
-    for _ in 0..count {
-        progress = read_state(text, progress, plan, numbers)?;
-    }
-    Ok(progress)
-}
-
-// ---- clips
-
-// Where the clips end, and the sum of their samples, which says how many poses there are.
-#[derive(Clone, Copy)]
-struct Clips {
-    progress: Progress,
-    samples: usize,
-}
-
-#[tactic(auto, using(crate::proofs::Laws::through))]
-fn read_clips(
-    text: &[u8],
-    count: usize,
-    from: Progress,
-    plan: &mut [u16],
-    numbers: &mut [f32],
-) -> Result<Clips, Malformed>
-    requires { InText text.now from × (count ≤ max_clips) }
-    ensures { ReadBy (times count (read_line LineKind.Clip)) text.now from (progress_of result)
-        plan.old plan.new numbers.old numbers.new
-        × IfOk result (λ clips. sampled count clips.samples (times count (read_line LineKind.Clip) (drop from.at text.now))) }
-{
-    let mut values = [0; MAX_FIELDS];
-    let mut progress = from;
-    let mut samples = 0;
-    for _ in 0..count {
-        progress = read_line(text, LineKind::Clip, progress, &mut values, plan, numbers)?;
-        samples += values[0];
-    }
-    Ok(Clips { progress, samples })
-}
-
-// ---- the whole
-
-// A line where none is left to come is one too many.
-fn read_end(text: &[u8], from: Progress) -> Result<Progress, Malformed>
-    requires { InText text.now from }
-    ensures { ended text.now from result (read_end (drop from.at text.now)) }
-{
-    if from.at < text.len() {
-        return Err(Malformed {
-            line: from.line + 1,
-        });
-    }
-    Ok(from)
-}
-
-// The poses are the last lines.
-fn read_poses(
-    text: &[u8],
-    count: usize,
-    from: Progress,
-    plan: &mut [u16],
-    numbers: &mut [f32],
-) -> Result<Progress, Malformed>
-    requires { InText text.now from }
-    ensures { ReadBy (read_poses count) text.now from result
-        plan.old plan.new numbers.old numbers.new }
-{
-    let behind = read_lines(text, LineKind::Pose, count, from, plan, numbers)?;
-    read_end(text, behind)
-}
 
 // Of the header.
 #[derive(Clone, Copy)]
@@ -125,42 +18,115 @@ struct Counts {
     states: usize,
 }
 
-// Clips, states and poses.
-fn read_motion(
-    text: &[u8],
-    counts: Counts,
-    from: Progress,
-    plan: &mut [u16],
-    numbers: &mut [f32],
-) -> Result<Progress, Malformed>
-    requires { InText text.now from × (counts.joints ≤ max_joints) × (counts.clips ≤ max_clips) }
-    ensures { ReadBy (read_motion counts.joints counts.clips counts.states) text.now from result
-        plan.old plan.new numbers.old numbers.new }
-{
-    let clips = read_clips(text, counts.clips, from, plan, numbers)?;
-    let behind = read_states(text, counts.states, clips.progress, plan, numbers)?;
-    read_poses(text, clips.samples * counts.joints, behind, plan, numbers)
+impl Reader<'_> {
+    ghost use Rattle.std.specs.Prelude.{◌≡◌, ◌≤◌, drop, IfOk};
+    ghost use Rattle.model.specs.Plan.{max_joints, max_clips};
+    ghost use Rattle.model.specs.Text.{read_line, read_state, times, read_end, read_figure};
+    ghost use Rattle.model.specs.declared.LineKind.TheVariants as LineKind;
+    ghost use Rattle.text.specs.Readers.{ReadTo};
+    ghost use Rattle.text.specs.Figures.{sampled, read_poses, read_motion};
+
+    // ---- states
+
+    // The text has T beside K; the plan has it behind the nodes.
+    fn read_state(&mut self) -> Result<(), Malformed>
+        ensures { ReadTo read_state self.old self.new result }
+    {
+        self.pass_line(LineKind::State)?;
+        let nodes = self.values[0];
+        let transitions = self.values[1];
+        self.put_word(nodes);
+        self.read_lines(LineKind::Node, nodes)?;
+        self.put_word(transitions);
+        self.read_lines(LineKind::Go, transitions)
+    }
+
+    fn read_states(&mut self, count: usize) -> Result<(), Malformed>
+        ensures { ReadTo (times count read_state) self.old self.new result }
+    {
+        for _ in 0..count {
+            self.read_state()?;
+        }
+        Ok(())
+    }
+
+    // ---- clips
+
+    // The sum of the clips' samples says how many poses there are.
+    fn read_clips(&mut self, count: usize) -> Result<usize, Malformed>
+        requires { count ≤ max_clips }
+        ensures read { ReadTo (times count (read_line LineKind.Clip)) self.old self.new result }
+        ensures samples { IfOk result
+            (λ m. sampled count m (times count (read_line LineKind.Clip) (drop self.old.progress.at self.old.text.now))) }
+    {
+        let mut samples = 0;
+        for _ in 0..count {
+            self.read_line(LineKind::Clip)?;
+            samples += self.values[0];
+        }
+        Ok(samples)
+    }
+
+    // ---- the whole
+
+    // A line where none is left to come is one too many.
+    fn read_end(&self) -> Result<(), Malformed>
+        ensures { ReadTo read_end self.now self.now result }
+    {
+        if self.progress.at < self.text.len() {
+            return Err(Malformed {
+                line: self.progress.line + 1,
+            });
+        }
+        Ok(())
+    }
+
+    // The poses are the last lines.
+    fn read_poses(&mut self, count: usize) -> Result<(), Malformed>
+        ensures { ReadTo (read_poses count) self.old self.new result }
+    {
+        self.read_lines(LineKind::Pose, count)?;
+        self.read_end()
+    }
+
+    // Clips, states and poses.
+    fn read_motion(&mut self, counts: Counts) -> Result<(), Malformed>
+        requires { (counts.joints ≤ max_joints) × (counts.clips ≤ max_clips) }
+        ensures { ReadTo (read_motion counts.joints counts.clips counts.states) self.old self.new result }
+    {
+        let samples = self.read_clips(counts.clips)?;
+        self.read_states(counts.states)?;
+        self.read_poses(samples * counts.joints)
+    }
+
+    fn read_figure(&mut self) -> Result<(), Malformed>
+        ensures { ReadTo read_figure self.old self.new result }
+    {
+        self.read_line(LineKind::Figure)?;
+        let counts = Counts {
+            joints: self.values[JOINT_COUNT_AT],
+            clips: self.values[CLIP_COUNT_AT],
+            states: self.values[STATE_COUNT_AT],
+        };
+        self.read_lines(LineKind::Joint, counts.joints)?;
+        self.read_motion(counts)
+    }
 }
 
-fn read_figure(text: &[u8], plan: &mut [u16], numbers: &mut [f32]) -> Result<Progress, Malformed>
+// A figure's text from its front on.
+fn read_text(text: &[u8], plan: &mut [u16], numbers: &mut [f32]) -> Result<Progress, Malformed>
     ensures { ReadBy read_figure text.now begin result
         plan.old plan.new numbers.old numbers.new }
 {
-    let begin = Progress {
-        at: 0,
-        line: 0,
-        words: 0,
-        numbers: 0,
+    let mut reader = Reader {
+        text,
+        progress: Progress::default(),
+        values: [0; MAX_FIELDS],
+        plan,
+        numbers,
     };
-    let mut values = [0; MAX_FIELDS];
-    let header = read_line(text, LineKind::Figure, begin, &mut values, plan, numbers)?;
-    let counts = Counts {
-        joints: values[JOINT_COUNT_AT],
-        clips: values[CLIP_COUNT_AT],
-        states: values[STATE_COUNT_AT],
-    };
-    let behind = read_lines(text, LineKind::Joint, counts.joints, header, plan, numbers)?;
-    read_motion(text, counts, behind, plan, numbers)
+    reader.read_figure()?;
+    Ok(reader.progress)
 }
 
 // The figure of a text, in the front of both slices; what follows there is kept. Refused, both keep their contents.
@@ -169,7 +135,7 @@ pub fn read(text: &[u8], plan: &mut [u16], numbers: &mut [f32]) -> Result<Length
         plan.old plan.new numbers.old numbers.new
         result }
 {
-    let whole = read_figure(text, &mut plan[..0], &mut numbers[..0])?;
+    let whole = read_text(text, &mut plan[..0], &mut numbers[..0])?;
     let lengths = Lengths {
         words: whole.words,
         numbers: whole.numbers,
@@ -178,6 +144,6 @@ pub fn read(text: &[u8], plan: &mut [u16], numbers: &mut [f32]) -> Result<Length
         return Err(Reason::Room.at(0));
     }
     // It passed before, so it passes again.
-    let _ = read_figure(text, plan, numbers);
+    let _ = read_text(text, plan, numbers);
     Ok(lengths)
 }

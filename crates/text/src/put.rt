@@ -1,20 +1,15 @@
-// One line, or many of a kind, into the slices. A place past a slice's end is not written, so that slices of no length
-// serve to judge a text.
-ghost use Rattle.std.specs.Prelude.{◌≡◌, [], ◌∷◌, ◌+◌, ◌<◌, ◌≤◌, ◌^◌, IfOk};
-ghost use Rattle.std.proofs.lemmas.List.Edits.{sets};
-ghost use Rattle.model.specs.Text.{max_word, forms, read_line, times, floats_of};
-ghost use Rattle.model.specs.Laws.Text.{Bounded};
-ghost use Rattle.text.specs.LineFound.{max_fields};
-ghost use Rattle.text.specs.Steps.{InText, LineAt, with_word, with_number, Room};
-ghost use Rattle.text.specs.Steps.{ValuesPut, LineValues, LineRead, ReadBy};
+// A reader: one line, or many of a kind, into the slices. A place past a slice's end is not written, so that slices of no
+// length serve to judge a text.
+ghost use Rattle.std.specs.Prelude.{◌≡◌};
 ghost use Rattle.model.specs.declared.Reason.TheVariants as reason;
+ghost use Rattle.text.specs.Steps.{InText};
 
 use crate::lines::{MAX_FIELDS, forms, line_at};
 use float::f32_from_bits;
 use model::{FieldForm, LineKind, Reason, Refusal};
 
 // The place in the text, and how many lines, words and numbers stand before it.
-#[derive(Clone, Copy)]
+#[derive(Clone, Copy, Default)]
 pub struct Progress {
     pub at: usize,
     pub line: usize,
@@ -36,128 +31,112 @@ impl From<Malformed> for Refusal {
     }
 }
 
-// ---- values, each behind those that were put before
-
-pub fn put_word(plan: &mut [u16], from: Progress, value: usize) -> Progress
-    requires { (value ≤ max_word) × (from.words + 1 < 2 ^ 64) }
-    ensures { (result ≡ with_word from)
-        × (plan.new ≡ sets plan.old from.words (value ∷ [])) }
-{
-    let at = from.words;
-    if at < plan.len() {
-        plan[at] = value as u16;
-    }
-    Progress {
-        words: at + 1,
-        ..from
-    }
+// A text, how far it is read, the values of the line that was read last, and the slices that words and numbers go to.
+#[derive(Drop)]
+pub struct Reader<'a> {
+    pub text: &'a [u8],
+    pub progress: Progress,
+    pub values: [usize; MAX_FIELDS],
+    pub plan: &'a mut [u16],
+    pub numbers: &'a mut [f32],
+    ghost in_text: { InText text.now progress },
 }
 
-fn put_number(numbers: &mut [f32], from: Progress, bits: usize) -> Progress
-    requires { (bits < 2 ^ 32) × (from.numbers + 1 < 2 ^ 64) }
-    ensures { (result ≡ with_number from)
-        × (numbers.new ≡ sets numbers.old from.numbers (floats_of (bits ∷ []))) }
-{
-    let at = from.numbers;
-    if at < numbers.len() {
-        numbers[at] = f32_from_bits(bits as u32);
+impl Reader<'_> {
+    ghost use Rattle.std.specs.Prelude.{[], ◌∷◌, ◌+◌, ◌<◌, ◌≤◌, ◌^◌, ◌≡◌, length, IfOk};
+    ghost use Rattle.std.proofs.lemmas.List.Edits.{sets};
+    ghost use Rattle.model.specs.Text.{max_word, forms, words_in, bits_in, read_line, times, floats_of};
+    ghost use Rattle.model.specs.Laws.Text.{Bounded};
+    ghost use Rattle.text.specs.Steps.{LineAt, with_word, with_number, LineValues};
+    ghost use Rattle.text.specs.Readers.{SameReader, Unwritten, RoomFor, PutTo, LineRead, ReadTo};
+
+    // ---- values, each behind those that were put before
+
+    pub fn put_word(&mut self, value: usize)
+        requires { (value ≤ max_word) × RoomFor 1 0 self.old.progress }
+        ensures same { SameReader self.old self.new × (self.new.values ≡ self.old.values) }
+        ensures progress { self.new.progress ≡ with_word self.old.progress }
+        ensures plan { self.new.plan.now ≡ sets self.old.plan.now self.old.progress.words (value ∷ []) }
+        ensures numbers { self.new.numbers.now ≡ self.old.numbers.now }
+    {
+        let at = self.progress.words;
+        if at < self.plan.len() {
+            self.plan[at] = value as u16;
+        }
+        self.progress.words = at + 1;
     }
-    Progress {
-        numbers: at + 1,
-        ..from
+
+    fn put_number(&mut self, bits: usize)
+        requires { (bits < 2 ^ 32) × RoomFor 0 1 self.old.progress }
+        ensures same { SameReader self.old self.new × (self.new.values ≡ self.old.values) }
+        ensures progress { self.new.progress ≡ with_number self.old.progress }
+        ensures plan { self.new.plan.now ≡ self.old.plan.now }
+        ensures numbers { self.new.numbers.now ≡ sets self.old.numbers.now self.old.progress.numbers (floats_of (bits ∷ [])) }
+    {
+        let at = self.progress.numbers;
+        if at < self.numbers.len() {
+            self.numbers[at] = f32_from_bits(bits as u32);
+        }
+        self.progress.numbers = at + 1;
     }
-}
 
-// A decimal goes to the plan, bits go to the numbers.
-fn put_value(
-    form: FieldForm,
-    value: usize,
-    from: Progress,
-    plan: &mut [u16],
-    numbers: &mut [f32],
-) -> Progress
-    requires { Bounded form value × Room 1 from }
-    ensures { ValuesPut (form ∷ []) (value ∷ []) from result
-        plan.old plan.new numbers.old numbers.new }
-{
-    match form {
-        FieldForm::Decimal { limit: _ } => put_word(plan, from, value),
-        FieldForm::Bits => put_number(numbers, from, value),
+    // A decimal goes to the plan, bits go to the numbers.
+    fn put_value(&mut self, form: FieldForm, value: usize)
+        requires { Bounded form value
+            × RoomFor (length (words_in (form ∷ []) (value ∷ []))) (length (bits_in (form ∷ []) (value ∷ []))) self.old.progress }
+        ensures { PutTo (form ∷ []) (value ∷ []) self.old self.new }
+    {
+        match form {
+            FieldForm::Decimal { limit: _ } => self.put_word(value),
+            FieldForm::Bits => self.put_number(value),
+        }
     }
-}
 
-// A line's values, field by field.
-fn put_line(
-    kind: LineKind,
-    values: &[usize; MAX_FIELDS],
-    from: Progress,
-    plan: &mut [u16],
-    numbers: &mut [f32],
-) -> Progress
-    requires { LineValues kind values.now × Room max_fields from }
-    ensures { ValuesPut (forms kind) values.now from result
-        plan.old plan.new numbers.old numbers.new }
-{
-    let mut progress = from;
-    for (k, form) in forms(kind).iter().enumerate() {
-        progress = put_value(*form, values[k], progress, plan, numbers);
+    // A line's values, field by field.
+    fn put_line(&mut self, kind: LineKind)
+        requires { LineValues kind self.old.values
+            × RoomFor (length (words_in (forms kind) self.old.values)) (length (bits_in (forms kind) self.old.values)) self.old.progress }
+        ensures { PutTo (forms kind) self.old.values self.old self.new }
+    {
+        for (k, form) in forms(kind).iter().enumerate() {
+            self.put_value(*form, self.values[k]);
+        }
     }
-    progress
-}
 
-// ---- lines
+    // ---- lines
 
-// Behind a line of a kind, with nothing put yet; its values stay in `values`.
-pub fn behind_line(
-    text: &[u8],
-    kind: LineKind,
-    from: Progress,
-    values: &mut [usize; MAX_FIELDS],
-) -> Result<Progress, Malformed>
-    requires { InText text.now from }
-    ensures { LineRead kind text.now values.new from result }
-{
-    let line = from.line + 1;
-    let at = line_at(text, from.at, kind, values).ok_or(Malformed { line })?;
-    Ok(Progress { at, line, ..from })
-}
-
-// One line; its values stay in `values`.
-pub fn read_line(
-    text: &[u8],
-    kind: LineKind,
-    from: Progress,
-    values: &mut [usize; MAX_FIELDS],
-    plan: &mut [u16],
-    numbers: &mut [f32],
-) -> Result<Progress, Malformed>
-    requires { InText text.now from }
-    ensures read_by { ReadBy (read_line kind) text.now from result
-        plan.old plan.new numbers.old numbers.new }
-    ensures valued { IfOk result (λ q. LineAt kind text.now values.new from q.at) }
-{
-    let behind = behind_line(text, kind, from, values)?;
-    Ok(put_line(kind, values, behind, plan, numbers))
-}
-
-// `count` lines of one kind.
-#[tactic(auto, using(crate::proofs::Laws::through))]
-pub fn read_lines(
-    text: &[u8],
-    kind: LineKind,
-    count: usize,
-    from: Progress,
-    plan: &mut [u16],
-    numbers: &mut [f32],
-) -> Result<Progress, Malformed>
-    requires { InText text.now from }
-    ensures { ReadBy (times count (read_line kind)) text.now from result
-        plan.old plan.new numbers.old numbers.new }
-{
-    let mut values = [0; MAX_FIELDS];
-    let mut progress = from;
-    for _ in 0..count {
-        progress = read_line(text, kind, progress, &mut values, plan, numbers)?;
+    // Goes behind a line of a kind, with nothing put yet.
+    pub fn pass_line(&mut self, kind: LineKind) -> Result<(), Malformed>
+        ensures same { Unwritten self.old self.new }
+        ensures line { LineRead kind self.old self.new result }
+    {
+        let line = self.progress.line + 1;
+        let found = line_at(self.text, self.progress.at, kind, &mut self.values);
+        let at = found.ok_or(Malformed { line })?;
+        self.progress = Progress {
+            at,
+            line,
+            ..self.progress
+        };
+        Ok(())
     }
-    Ok(progress)
+
+    pub fn read_line(&mut self, kind: LineKind) -> Result<(), Malformed>
+        ensures read { ReadTo (read_line kind) self.old self.new result }
+        ensures valued { IfOk result (λ _. LineAt kind self.old.text.now self.new.values self.old.progress self.new.progress.at) }
+    {
+        self.pass_line(kind)?;
+        self.put_line(kind);
+        Ok(())
+    }
+
+    // `count` lines of one kind.
+    pub fn read_lines(&mut self, kind: LineKind, count: usize) -> Result<(), Malformed>
+        ensures { ReadTo (times count (read_line kind)) self.old self.new result }
+    {
+        for _ in 0..count {
+            self.read_line(kind)?;
+        }
+        Ok(())
+    }
 }

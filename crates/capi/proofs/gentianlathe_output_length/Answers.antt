@@ -1,6 +1,5 @@
 -- `capi::gentianlathe_output_length` meets its contract. Assumes nothing.
 use mathlib.Core.Path.{ap, ◌∙◌}
-use borrow.Author.Rules.{rules}
 use Rattle.model.specs.Plan.{joint_count, output_at}
 use Rattle.capi.proofs.gentianlathe_output_length.Goals as goal
 

@@ -1,6 +1,6 @@
 -- `host_loops::host_loops` meets its contract: what `loops` counted for the unpacked player, made flat. Assumes nothing.
 use Prim.Native.Nat.{ℕ}
-use mathlib.Core.Path.{◌≡◌, ap, subst}
+use mathlib.Core.Path.{◌≡◌, refl, subst}
 use mathlib.Core.List.{List}
 use lib.Ieee.{Float}
 use Rattle.std.specs.Prelude.{Result}
@@ -19,7 +19,7 @@ made-flat plan numbers flat s n time p c is counted =
     record { count = c; counted = subst (λ (q : Player). LoopsCounted plan numbers q s n time c) is counted; told = refl }
 
 pub returns-in-Ok : goal.returns-in-Ok
-returns-in-Ok c = ?
+returns-in-Ok c = made-flat _ _ _ _ _ _ _ _ c.from.ensures c.in-Ok.ensures
 
 pub returns-in-Err : goal.returns-in-Err
-returns-in-Err c = ?
+returns-in-Err c = rw c.number.ensures (made-flat _ _ _ _ _ _ _ _ c.from.ensures c.in-Err.ensures)

@@ -2,9 +2,7 @@
 -- Assumes nothing.
 use mathlib.Core.Path.{sym}
 use lib.Seq.{length-take-le}
-use borrow.Author.Rules.{rules}
 use Rattle.program.specs.Questions.{shown}
-use Rattle.printing.proofs.Laws.{front_written}
 use Rattle.program_text.proofs.Laws.{refusal_printed, FigureRead, figure_read}
 use Rattle.program.proofs.answer.Goals as goal
 use Rattle.program.proofs.answer.Goals.{In-Ok}
@@ -12,7 +10,7 @@ use Rattle.program.proofs.answer.Goals.{In-Ok}
 -- in the accepted arm
 known : (c : In-Ok)
     → FigureRead c.args.text.now c.read_program_text.new.plan c.read_program_text.new.numbers c.in-Ok.read.words c.in-Ok.read.numbers
-known c = figure_read _ _ _ _ _ _ c.read_program_text.ensures _ _ c.in-Ok.is
+known c = figure_read _ _ _ _ _ _ c.read_program_text.ensures _ c.in-Ok.is
 
 pub slice_bounds-plan-end : goal.slice_bounds-plan-end
 slice_bounds-plan-end c = (known (goal.at.slice_bounds-plan-end c).In-Ok).words_there
@@ -24,7 +22,7 @@ pub returns-in-Err : goal.returns-in-Err
 returns-in-Err c =
     let question = c.args.question in
     rw (refusal_printed _ _ _ _ _ _ c.read_program_text.ensures (shown question) _ c.in-Err.is)
-    at (front_written c.put_refusal.ensures.0 (search rules))
+    at c.put_only_refusal.ensures
 
 pub returns-in-Ok : goal.returns-in-Ok
 returns-in-Ok c =

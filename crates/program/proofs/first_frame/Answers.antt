@@ -1,8 +1,6 @@
 -- `program::first_frame` meets its contract: the frame is accepted, so its output has the figure's matrices. Assumes nothing.
-use Prim.Native.Nat.{◌≤◌}
-use native.Mathlib.Omega.{arith}
+use Rattle.std.proofs.Common.{◌≤◌, length, ap, arith, rules}
 use lib.Ieee.{of_bits}
-use borrow.Author.Rules.{rules}
 use Rattle.model.specs.Plan.{max_joints}
 use Rattle.printing.proofs.Laws.{front_written}
 use Rattle.program.proofs.Laws.{few_shown, frame_lines}
@@ -17,11 +15,13 @@ few_joints c =
 pub put_joints-requires : goal.put_joints-requires
 put_joints-requires c =
     let few = few_joints (goal.at.put_joints-requires c).After-word in
-    (few, omega (arith, c.requires), omega (arith, c.frame.auto.output))
+    let new = c.new-w.ensures in
+    (few, omega (arith, c.requires.2, new.first, ap length new.held), omega (arith, c.frame.auto.output))
 
 pub returns : goal.returns
 unfolding of_bits
 returns c =
     let few = few_joints (goal.at.returns c).After-word in
-    rw (frame_lines _ _ c.requires.0 _ _ _ _ _ c.requires.1 c.word.ensures.0 (search rules) c.frame.ensures)
-    at (front_written c.put_joints.ensures.0 (omega arith))
+    let new = c.new-w.ensures in
+    let lines = frame_lines _ _ c.requires.0 _ _ _ _ _ c.requires.1 c.word.ensures.0 (search rules) c.frame.ensures in
+    front_written (rw lines at c.put_joints.ensures.0) new.held new.first (omega (arith, c.put_joints.ensures.1, new.first, c.requires.2)) (search rules)

@@ -1,7 +1,6 @@
 -- `program::play` meets its contract: a refused start is printed as such, an accepted one gives a fresh player.
 -- Assumes nothing.
 use borrow.Author.Rules.{rules}
-use Rattle.printing.proofs.Laws.{front_written}
 use Rattle.program.proofs.Laws.{refusal_played, start_accepted, player_fresh}
 use Rattle.program.proofs.play.Goals as goal
 
@@ -12,8 +11,7 @@ first_frame-requires c =
 
 pub returns-in-Err : goal.returns-in-Err
 returns-in-Err c =
-    rw (refusal_played _ _ _ c.start-begun.ensures _ c.in-Err.is)
-    at (front_written c.put_refusal.ensures.0 (search rules))
+    rw (refusal_played _ _ _ c.start-begun.ensures _ c.in-Err.is) at c.put_only_refusal.ensures
 
 pub returns-in-Ok : goal.returns-in-Ok
 returns-in-Ok c =

@@ -1,9 +1,8 @@
 -- `replay_core::begin` meets its contract: the start's answer and its player. Assumes nothing.
-use native.Mathlib.Omega.{arith}
+use Rattle.std.proofs.Common.{refl, arith}
 use Rattle.replay_core.proofs.Laws.{begun}
 use Rattle.replay_core.proofs.begin.Goals as goal
 
 pub returns : goal.returns
 returns c =
-    let started = c.start-started.ensures in
-    begun _ _ _ started c.put_answer-at.ensures.0 c.put_player-length.ensures.0 (omega arith)
+    begun _ _ _ c.start-answer.ensures c.put_answer.ensures.0 c.put_player.ensures.0 c.new-w.ensures.held c.new-w.ensures.first (omega arith) refl

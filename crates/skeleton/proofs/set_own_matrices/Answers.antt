@@ -11,5 +11,5 @@ loop-i-preserved c =
     let l = c.loop-i in
     record {
       same = c.set_matrix.auto.buffer ∙ l.invariant.same;
-      own = one_own_more _ _ _ l.invariant.own (c.own_matrix-own.ensures ∙ rw (c.to_matrix.ensures, c.lane.ensures)) (c.set_matrix.ensures ∙ rw c.output_at.ensures);
+      own = one_own_more _ _ _ l.invariant.own (c.own_matrix-own.ensures ∙ rw c.to_matrix.ensures) (c.set_matrix.ensures ∙ rw c.output_at.ensures);
     }

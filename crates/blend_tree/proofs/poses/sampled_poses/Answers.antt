@@ -2,8 +2,8 @@
 use Prim.Native.Nat.{◌+◌, ◌*◌, ◌≤◌}
 use native.Mathlib.Omega.{arith}
 use mathlib.Core.Path.{◌≡◌}
-use lib.ListN.{length}
-use Rattle.lanes.proofs.Laws.{done_more}
+use lib.ListN.{length, length-set}
+use Rattle.std.proofs.lemmas.Grind.{common_steps}
 use Rattle.blend_tree.specs.Sampling.{pose_between}
 use Rattle.blend_tree.proofs.SamplingLaws.{samples_small, row_start, row_inside}
 use Rattle.blend_tree.proofs.poses.sampled_poses.Goals as goal
@@ -33,9 +33,9 @@ pose_between-requires c = inside (goal.at.pose_between-requires c).In-loop-i
 pub loop-i-preserved : goal.loop-i-preserved
 unfolding pose_between
 loop-i-preserved c =
-    let samples = c.args.samples in
-    let layout = c.args.figure.now.plan.layout in
+    let figure = c.args.figure.now in
+    let p = c.args.samples in
     let first = c.args.joints.first in
-    let here : c.pose_between.result ≡ pose_between c.args.figure.now.numbers.now layout samples (first + c.loop-i.i) =
-    rw (c.pose_between.ensures, c.pose_at-low.ensures, c.pose_at-high.ensures, row_start layout samples.first first c.loop-i.i, row_start layout samples.second first c.loop-i.i) in
-    done_more c.set_lane.ensures (λ k r. r ≡ pose_between c.args.figure.now.numbers.now layout samples (first + k)) (omega (arith, c.requires.1.small)) c.loop-i.invariant here
+    let here : c.pose_between.result ≡ pose_between figure.numbers.now figure.plan.layout p (first + c.loop-i.i) =
+    rw (c.pose_between.ensures, c.pose_at-low.ensures, c.pose_at-high.ensures, row_start figure.plan.layout p.first first c.loop-i.i, row_start figure.plan.layout p.second first c.loop-i.i) in
+    record { size = rw length-set c.loop-i.invariant.size; done = grind (arith, common_steps, c.loop-i.invariant.done, here) }

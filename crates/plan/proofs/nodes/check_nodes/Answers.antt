@@ -17,21 +17,21 @@ returns-in_err-check_node c =
     let pre = c.requires in
     record {
       answer = λ s b. let so_far = c.loop-i.invariant.1 s b in passing_stops so_far.passing c.loop-i-test.true _ _ _ c.from_residual.ensures.1 (node_verdict _ _ _ _ b so_far c.loop-i-test.true pre.1 _ pre.3 _ _ c.in_err-check_node.ensures);
-      marks = λ s b. IfOk-from_err _ _ c.from_residual.ensures.0;
+      marked = λ s b. IfOk-from_err _ _ c.from_residual.ensures.0;
     }
 
-pub marked-used-requires : goal.marked-used-requires
-marked-used-requires c = (omega arith, has_inputs _ _ _ _ (passed _ _ c.in_ok-check_node.ensures) (omega arith))
+pub mark-requires : goal.mark-requires
+mark-requires c = (omega arith, has_inputs _ _ _ _ (passed _ _ c.in_ok-check_node.ensures) (omega arith))
 
 pub loop-i-preserved : goal.loop-i-preserved
 loop-i-preserved c =
     let pre = c.requires in (
       omega (arith, c.counted-clip_node.ensures, clip_node_most c.args.plan.now (c.args.at + 1 + 4 * c.loop-i.i) c.loop-i.clip_node),
-      λ s b. rw (c.marked-used.ensures, c.counted-clip_node.ensures) (node_next _ _ _ _ b (c.loop-i.invariant.1 s b) c.loop-i-test.true pre.1 _ pre.3 _ _ c.in_ok-check_node.ensures _ refl),
+      λ s b. rw (c.mark.ensures, c.counted-clip_node.ensures) (node_next _ _ _ _ b (c.loop-i.invariant.1 s b) c.loop-i-test.true pre.1 _ pre.3 _ _ c.in_ok-check_node.ensures _ refl),
     )
 
 pub returns : goal.returns
 returns c =
     let l = c.loop-i.invariant in
     let out = c.loop-i-test.false in
-    record { answer = λ s b. passing_all (l.1 s b).passing _ out; marks = λ s b. marks_all _ _ _ _ (l.1 s b).marked _ (l.1 s b).passing.within out }
+    record { answer = λ s b. passing_all (l.1 s b).passing _ out; marked = λ s b. marks_all _ _ _ _ (l.1 s b).marked _ (l.1 s b).passing.within out }

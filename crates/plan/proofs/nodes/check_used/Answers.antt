@@ -8,12 +8,12 @@ pub returns-then-not-used-k : goal.returns-then-not-used-k
 unfolding values
 returns-then-not-used-k c =
     let a = c.args in
-    rw c.at.ensures (unused_stops a.used a.place c.loop-k.invariant c.loop-k-test.true c.if-not-used-k.true)
+    rw c.at.ensures (unused_stops a.used.now a.place c.loop-k.invariant c.loop-k-test.true c.if-not-used-k.true)
 
 pub loop-k-preserved : goal.loop-k-preserved
 loop-k-preserved c =
     let a = c.args in
-    used_next a.used a.place c.loop-k.invariant c.loop-k-test.true c.if-not-used-k.false
+    used_next a.used.now a.place c.loop-k.invariant c.loop-k-test.true c.if-not-used-k.false
 
 pub loop-k-init : goal.loop-k-init
 loop-k-init c = passing_none _ _

@@ -21,9 +21,9 @@ check_nodes-requires c =
     let between = nodes_between (counted (goal.at.check_nodes-requires c).After-word-nodes) in
     (omega (arith, pre.0, between), between.1, pre.1, pre.2)
 
-pub returns-in_err-used : goal.returns-in_err-used
-returns-in_err-used c =
-    record { answer = λ s b. leaves _ _ _ _ c.from_residual-in_err-used.ensures.1 (nodes_stop (counted (goal.at.returns-in_err-used c).After-word-nodes) _ b.place _ _ (c.in_err-used.ensures.answer s b)) }
+pub returns-in_err-check_nodes : goal.returns-in_err-check_nodes
+returns-in_err-check_nodes c =
+    record { answer = λ s b. leaves _ _ _ _ c.from_residual-in_err-check_nodes.ensures.1 (nodes_stop (counted (goal.at.returns-in_err-check_nodes c).After-word-nodes) _ b.place _ _ (c.in_err-check_nodes.ensures.answer s b)) }
 
 pub overflow_sub-nodes : goal.overflow_sub-nodes
 overflow_sub-nodes c = omega (arith, nodes_between (counted (goal.at.overflow_sub-nodes c).After-word-nodes))
@@ -33,13 +33,13 @@ check_used-requires c = omega (arith, nodes_between (counted (goal.at.check_used
 
 pub returns-in_err-check_used : goal.returns-in_err-check_used
 returns-in_err-check_used c =
-    let nodes = c.in_ok-used.ensures in
-    record { answer = λ s b. leaves _ _ _ _ c.from_residual-in_err-check_used.ensures.1 (inputs_stop (counted (goal.at.returns-in_err-check_used c).After-word-nodes) _ b.place _ (nodes.answer s b) (nodes.marks s b) _ c.in_err-check_used.ensures _ refl) }
+    let nodes = c.in_ok-check_nodes.ensures in
+    record { answer = λ s b. leaves _ _ _ _ c.from_residual-in_err-check_used.ensures.1 (inputs_stop (counted (goal.at.returns-in_err-check_used c).After-word-nodes) _ b.place _ _ (nodes.answer s b) (nodes.marked s b) _ c.in_err-check_used.ensures _ refl) }
 
 tree : (c : In_ok-check_used) (s : ℕ) → let a = c.args in Begins a.plan.now s a.at a.clip_node → tree_of a.plan.now s a.at c.word-nodes.result ≡ accepted
 tree c s b =
-    let nodes = c.in_ok-used.ensures in
-    is_tree (is_counted _ _ _ c.word-nodes.ensures.0 _ c.in_ok-word_within.ensures) _ b.place _ (nodes.answer s b) (nodes.marks s b) _ c.in_ok-check_used.ensures _ refl
+    let nodes = c.in_ok-check_nodes.ensures in
+    is_tree (is_counted _ _ _ c.word-nodes.ensures.0 _ c.in_ok-word_within.ensures) _ b.place _ _ (nodes.answer s b) (nodes.marked s b) _ c.in_ok-check_used.ensures _ refl
 
 pub returns-in_err-word_up_to : goal.returns-in_err-word_up_to
 returns-in_err-word_up_to c =

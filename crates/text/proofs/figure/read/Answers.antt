@@ -9,7 +9,7 @@ use Rattle.text.proofs.figure.read.Goals.{In_ok-whole, then-plan-lengths-via-the
 pub returns-in_err-whole : goal.returns-in_err-whole
 returns-in_err-whole c =
     let a = c.args in
-    let first = c.read_figure in
+    let first = c.read_text in
     let p = err_from_is_err_and c.from_residual.result c.from_residual.ensures.1 in
     rw (p.1, p.2, lent_nothing first.new.plan a.plan.now first.auto.plan, lent_nothing first.new.numbers a.numbers.now first.auto.numbers)
     (refused_11 _ _ _ _ _ _ _ _ c.in_err-whole.ensures)
@@ -21,7 +21,7 @@ passed c = judged _ _ _ _ _ _ _ c.in_ok-whole.ensures
 pub returns-then-plan-lengths : goal.returns-then-plan-lengths
 returns-then-plan-lengths c =
     let a = c.args in
-    let first = c.read_figure in
+    let first = c.read_text in
     let plan = lent_nothing first.new.plan a.plan.now first.auto.plan in
     let numbers = lent_nothing first.new.numbers a.numbers.now first.auto.numbers in
     let j = passed (goal.at.returns-then-plan-lengths c).In_ok-whole in
@@ -35,8 +35,8 @@ returns-then-plan-lengths c =
 pub returns : goal.returns
 returns c =
     let a = c.args in
-    let first = c.read_figure in
+    let first = c.read_text in
     let plan = lent_nothing first.new.plan a.plan.now first.auto.plan in
     let numbers = lent_nothing first.new.numbers a.numbers.now first.auto.numbers in
     let j = passed (goal.at.returns c).In_ok-whole in
-    accepts _ _ _ _ _ j _ _ _ (rw plan at c.if-plan-lengths.false) (rw numbers at c.if-numbers-lengths.false) (rw (plan, numbers) at c.read_figure-2.ensures)
+    accepts _ _ _ _ _ j _ _ _ (rw plan at c.if-plan-lengths.false) (rw numbers at c.if-numbers-lengths.false) (rw (plan, numbers) at c.read_text-2.ensures)
