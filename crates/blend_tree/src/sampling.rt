@@ -9,6 +9,7 @@ use layout::{pose_at, rate, samples_before};
 use model::{ClipInstance, Pose};
 
 // A clip of a plan: how many samples it has, how many the clips before it have, whether it stops, and its rate.
+// `stops` is what `is_stopping` answers: an enum of two endings would only be made of that bool and asked once.
 #[derive(Clone, Copy)]
 pub struct Clip {
     pub samples: usize,

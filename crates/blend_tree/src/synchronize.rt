@@ -26,6 +26,7 @@ pub fn clip_node(state: &State<'_>, i: usize) -> usize
 
 // That of every node, in one pass. A slot of another node is not read. They are bytes in an array of the caller's,
 // since copies of them cost more than all else for a state of one node.
+// A `for` of two lines, as in `clip_node`: a `scan` of both would put place and step into a closure.
 fn clip_slots(state: &State<'_>, slots: &mut [u8; SLOTS])
     ensures { Slots state.now.plan.words.now state.now.here.state slots.new }
 {

@@ -25,6 +25,7 @@ use skeleton::output_at;
 
 // ---- start, update, speed, set
 
+// C calls each by its name. They share no function: each only stores what its call by value in host_player answers.
 #[unsafe(no_mangle)]
 pub extern "C" fn gentianlathe_start(
     plan: &[u16],
@@ -100,6 +101,7 @@ fn frame_in_place(
     frame.answer
 }
 
+// C calls each kind by its name; both are this one function.
 #[unsafe(no_mangle)]
 pub extern "C" fn gentianlathe_frame(
     plan: &[u16],

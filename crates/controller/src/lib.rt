@@ -17,6 +17,7 @@ use model::limits::{INSTANCE_FLOATS, MAX_CLIP_NODES, MAX_INSTANCES, MAX_PARAMETE
 use model::{FrameKind, Outcome, Player, Reason, Transition};
 use plan::{answer_of, figure};
 
+// Every third float: a player's instances are one array, and model's `Player` says why.
 fn blank_instances() -> [f32; MAX_INSTANCES]
     ensures { result ≡ blank_instances max_clip_nodes }
 {
@@ -166,6 +167,7 @@ fn framed(
     }
 }
 
+// Two calls over one function, since README and docs/PROOFS.md name both.
 pub fn frame(plan: &[u16], numbers: &[f32], player: Player, ext: f64, output: &mut [f32]) -> Outcome
     ensures { Framed Ordinary plan.now numbers.now player ext
         output.old output.new result }

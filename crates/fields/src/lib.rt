@@ -1,4 +1,5 @@
 // The name or the field at a place of a text. The cursor that walks over a line's fields is in `text::lines`.
+// All is on a slice and a place: document 01 asks for a cursor of few thin functions over such a core.
 #![tactic(auto)]
 
 ghost use Rattle.std.specs.Prelude.{◌≡◌, cond, ℕ, ◌+◌, ◌-◌, ◌<◌, ◌≤◌, ◌^◌, length, get_or, drop};
@@ -10,6 +11,7 @@ ghost use Rattle.fields.specs.CountedTo.{CountedTo};
 
 use model::FieldForm;
 
+// report, printing and recorded_functions have sizes of their own: a line each, as importing a public one would be.
 const DECIMAL: usize = 10;
 
 const HEXADECIMAL: usize = 16;
@@ -53,6 +55,7 @@ pub fn name_at(text: &[u8], at: usize, name: &[u8]) -> usize
 const LETTERS: u8 = b'a' - 10;
 
 // Tests and no `match`: these become no branches, which digits that come in no order mispredict, and reading takes half the time.
+// No `Option`: the definition `digit` answers 16 where there is none, so that one test ends a run in either base.
 #[tactic(auto, unfolding(model::specs::Text::digit, model::specs::Check::within))]
 fn digit(b: u8) -> usize
     ensures { result ≡ digit b }
@@ -68,6 +71,8 @@ fn digit(b: u8) -> usize
 
 // The run that begins at `at`. Once its number is above `most` it is not counted further, so that a long run cannot
 // overflow.
+// Not by `from_str_radix`, here and below: it takes a sign and upper case, and document 01's fields have neither. The
+// base is a number, as in `digit_count`: an enum of two would be turned into it.
 fn run_at(text: &[u8], at: usize, base: usize, most: usize) -> Field
     requires { (1 ≤ base) × (base ≤ 16) × (most < 2 ^ 60) }
     ensures { (result.end ≡ at + digit_count base (drop at text.now))

@@ -30,6 +30,7 @@ pub fn f32_from_bits(b: u32) -> f32
 }
 
 // A NaN has the pattern 7fc00000 here, and 7ff8000000000000 at 64 bits.
+// At each width by itself, as from bits.
 pub fn f32_to_bits(x: f32) -> u32
     ensures { result ≡ to_bits binary32 x }
 {
@@ -62,6 +63,7 @@ pub fn widen(x: f32) -> f64
 // ---- narrowing, by the cases of IEEE 754: docs/NARROWING.md has the standard's sentence, the predicate and the branch side by side
 
 // n / 2 ^ k rounded to a whole number (4.3.1, round_ties_to_even): the nearer one, and half way the even one.
+// By < and >: docs/NARROWING.md sets these branches beside the standard's sentences.
 fn rounding_shift(n: u64, k: u64) -> u64
     requires { (0 < k) × (k < 64) }
     ensures { result ≡ closest n (2 ^ k) }
@@ -139,7 +141,8 @@ fn case_pattern(case: Narrowed) -> u32
     }
 }
 
-// Worked out on the pattern, since the cast `x as f32` is not supplied. The sign is kept.
+// Worked out on the pattern, by the cases that document 02's Card 4 asks for; std's nearest_f64_to_f32 would hide them.
+// The sign is kept.
 pub fn narrow(x: f64) -> f32
     ensures { result ≡ narrow x }
 {

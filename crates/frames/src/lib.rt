@@ -22,6 +22,7 @@ use skeleton::output_at;
 use transitions::{Stepped, step};
 
 // What a frame reads of a player beside its arrays.
+// Beside `Player`, which has the arrays in it: a host lends those where they lie, and nothing large is copied.
 #[derive(Clone, Copy)]
 pub struct Parts {
     pub clock: f64,
@@ -44,6 +45,8 @@ impl From<&Player> for Parts {
 }
 
 // The answer, and the parts that a frame hands back; the instances are changed where they are.
+// No `Result`: `FramedParts` says of a refused frame too what it hands back.
+// No `Stepped` in it: both callers would read the two fields a level deeper, for one line less here.
 #[derive(Clone, Copy)]
 pub struct FrameParts {
     pub answer: Answer,
@@ -51,6 +54,7 @@ pub struct FrameParts {
     pub transition: Transition,
 }
 
+// By match: with `matches!` it would be two of them, or the negation of a target that is not below.
 fn is_target_below(n: usize, transition: Transition) -> bool
     ensures { result ≡ is_target_below n transition }
 {
@@ -162,6 +166,7 @@ fn frame_answer(figure: &Figure<'_>, parts: Parts, length: usize) -> Answer
 }
 
 // One function for both kinds, so that the compiler can inline the work.
+// Its parameters are those of the calls, with a player's arrays as a C host lends them (`host_frame`).
 pub fn frame(
     kind: FrameKind,
     plan: &[u16],

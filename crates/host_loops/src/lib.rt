@@ -8,6 +8,7 @@ use loops::loops;
 use model::Player;
 
 // Number 0 is the acceptance. Any other is a refusal, and loops and rest are 0.
+// No `Result`: C has this struct.
 #[repr(C)]
 #[derive(Clone, Copy)]
 pub struct HostLoops {
@@ -17,6 +18,7 @@ pub struct HostLoops {
     pub rest: usize,
 }
 
+// One match and no `From`: nothing else makes one, and an `impl` would hold the same match.
 pub fn host_loops(
     plan: &[u16],
     numbers: &[f32],

@@ -25,7 +25,7 @@ use Rattle.host_player.specs.HostParts.{host_of, UnpackedParts, PackedParts}
 
 -- ---- the flat player after a call
 
--- a call on the player between `unpack` and `pack`
+-- a call on the player between the two conversions
 pub between : (f : HostPlayer) {p q : Player} {r : HostPlayer} (call : Player → Player) → p ≡ unpacked f → q ≡ call p → r ≡ packed q → r ≡ packed (call (unpacked f))
 between f call e h k = k ∙ ap packed (h ∙ ap call e)
 

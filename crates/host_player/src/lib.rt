@@ -17,6 +17,7 @@ use model::limits::{MAX_INSTANCES, MAX_PARAMETERS};
 use model::{Answer, FrameKind, Lengths, Outcome, Player, Refusal, Transition};
 
 // Start, target and duration count where `running` is not 0.
+// `running` and no `Option`: C has this struct.
 #[repr(C)]
 #[derive(Clone, Copy)]
 pub struct HostPlayer {
@@ -32,6 +33,8 @@ pub struct HostPlayer {
 }
 
 // The numbers of a flat player, without its arrays.
+// Flat too, with what does not count: `HostFramed` says that a refused frame leaves all of it as it was.
+// No field of `HostPlayer`: as one it would end in padding, which C's struct does not have before its arrays.
 #[derive(Clone, Copy)]
 pub struct HostParts {
     pub clock: f64,
@@ -44,6 +47,7 @@ pub struct HostParts {
 }
 
 // Number 0 is the acceptance.
+// No `Result`: C has this struct.
 #[repr(C)]
 #[derive(Clone, Copy)]
 pub struct HostAnswer {
@@ -52,6 +56,7 @@ pub struct HostAnswer {
 }
 
 // How many words and numbers were written, where the text was accepted.
+// No `Result`: C has this struct.
 #[repr(C)]
 #[derive(Clone, Copy)]
 pub struct HostTextAnswer {
@@ -219,6 +224,7 @@ pub fn started(plan: &[u16], numbers: &[f32]) -> HostOutcome
     HostOutcome::from(start(plan, numbers))
 }
 
+// A line, as `with_speed`: a call by a closure would be as long.
 pub fn updated(flat: HostPlayer, delta: f64) -> HostPlayer
     ensures { HostUpdated flat delta result }
 {
@@ -247,6 +253,7 @@ pub fn parameter_set(flat: HostPlayer, parameter: usize, value: f32) -> HostOutc
 // ---- frame and page frame: the player's owner lends its arrays
 
 // What a frame hands back beside the instances: its answer, and the numbers of the player after it.
+// No `Result`: `HostFramed` says of a refused frame too which parts the player has.
 #[derive(Clone, Copy)]
 pub struct HostFrame {
     pub answer: HostAnswer,

@@ -7,6 +7,7 @@ use model::limits::{MAX_CLIPS, MAX_PARAMETERS, MAX_STATES};
 use uses::uses;
 
 // Number 0 is the acceptance. Any other is a start's refusal, and no mark is set.
+// No `Result`: C has this struct.
 #[repr(C)]
 #[derive(Clone, Copy)]
 pub struct HostUses {
@@ -17,6 +18,7 @@ pub struct HostUses {
     pub clips: [bool; MAX_CLIPS],
 }
 
+// One match and no `From`: nothing else makes one, and an `impl` would hold the same match.
 pub fn host_uses(plan: &[u16], numbers: &[f32]) -> HostUses
     ensures { HostUsesFound plan.now numbers.now result }
 {

@@ -94,7 +94,7 @@ module _ {plan : List ℕ} {here : StateLayout} {i : ℕ} (ok : Passes plan) (in
   pub node_small : i ≤ max_nodes
   node_small = omega (arith, nodes_few inside ok)
 
--- its words, as `node_at` gives them
+-- its words, as `State::node` gives them
 pub record NodeRead (plan : List ℕ) (here : StateLayout) (i : ℕ) (words : Node) : Type 0 where
   pub passes : Passes plan
   pub state : InPlan plan here

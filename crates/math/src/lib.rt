@@ -188,6 +188,7 @@ fn turned_back(u: Unscaled) -> Unscaled
     Unscaled { t: u.t, q }
 }
 
+// A line each, by turning: a const parameter would have to pick named fields (`c0`, `r1`, ..) by a number.
 fn from_diagonal_1(m: Matrix4) -> Unscaled
     ensures { scaled_by_root result ≡ from_diagonal m 1 2 0 (λ w qi qj qk. quaternion w qk qi qj) }
 {

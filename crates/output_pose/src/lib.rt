@@ -80,6 +80,7 @@ fn show_blocks(
 }
 
 // The first joint's pose in a clip.
+// Beside `clip_poses`, since clearing a block took longer than this pose (docs/DECISIONS.md, 47).
 fn clip_pose(figure: &Figure<'_>, number: usize, instance: ClipInstance, time: f32) -> Pose
     requires { (number < clip_count figure.now.plan.words.now) × (0 < figure.now.plan.layout.joints) }
     ensures { result
@@ -175,6 +176,7 @@ fn show_transition(
 
 // A state and its transition, if one is under way. Then it shows itself by the instances that it had before the
 // target's rates were set, as the Rust does.
+// The two arrays stay apart: the instances are lent to be changed first, and then shared, in a `Source`.
 pub fn show(
     kind: FrameKind,
     state: &StateAt<'_>,

@@ -11,11 +11,12 @@ use layout::{Kind, NODE_WORDS, word};
 use model::limits::{MAX_CLIP_NODES, MAX_NODES};
 use model::{Answer, Reason};
 
-// A mark for each node, and one more: a power of two of bytes is copied without overlap, which makes the whole check
-// twice as fast.
+// A mark for each node, and one more: where marks are copied, 32 bytes make the whole check twice as fast as 31
+// (docs/DECISIONS.md, 50). Here they are written in place.
 pub const MARKS: usize = MAX_NODES + 1;
 
 // A node by its number in its state: the word of its kind, and the number that it has if it is a clip.
+// It has no ghost field: laws of `check_node_at` make such records of any numbers, and would have to prove it there.
 #[derive(Clone, Copy)]
 pub struct NodePlace {
     pub i: usize,
@@ -100,6 +101,7 @@ fn counted(plan: &[u16], at: usize, clip_node: usize) -> usize
 }
 
 // The first n nodes of the state whose K is the word `at`. Their marks are left in `used`.
+// At a place, like all of the check: words.rt says why.
 pub fn check_nodes(
     plan: &[u16],
     at: usize,

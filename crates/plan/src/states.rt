@@ -29,6 +29,7 @@ fn check_transition(plan: &[u16], at: usize, counts: Counts) -> Answer
 }
 
 // The first n of those that begin at `from`.
+// At a place, like all of the check: words.rt says why.
 fn check_transitions(plan: &[u16], from: usize, n: usize, counts: Counts) -> Answer
     requires { from + 3 * n ≤ max_word }
     ensures { values result ≡ each n (λ t. check_transition_at plan.now counts (from + 3 * t)) }
@@ -56,6 +57,7 @@ fn check_state(plan: &[u16], at: usize, counts: Counts, clip_node: usize) -> Ans
 }
 
 // All states, the first of which begins at `from`.
+// As `Plan::state_layout`, with a check of each state between: a step for both would hand back four numbers at a time.
 pub fn check_states(plan: &[u16], from: usize, counts: Counts) -> Result<States, Refusal>
     requires { (from ≤ max_states_at)
         × (from ≡ state_at plan.now 0)

@@ -7,7 +7,8 @@ ghost use Rattle.model.specs.Answers.{number_of};
 ghost use Rattle.model.specs.Text.{comma};
 ghost use Rattle.model.specs.Plan.{max_joints, output_at};
 ghost use Rattle.model.specs.Program.{glyph, digits, places, decimal_fields, refused_line, joint_line, number_bytes};
-ghost use Rattle.printing.specs.Written.{HasRoom, Wrote, WroteUpTo, WroteExactly, float_fields, matrix_in, joint_lines};
+ghost use Rattle.printing.specs.Written.{HasRoom, Wrote, WroteUpTo, WroteExactly, Front};
+ghost use Rattle.printing.specs.Written.{float_fields, matrix_in, joint_lines};
 ghost use Rattle.printing.specs.Sizes.{max_digits, decimal_size, refusal_size, joint_size};
 
 use float::f32_to_bits;
@@ -47,6 +48,7 @@ fn places(n: usize) -> usize
 }
 
 // The last digits of n, as many as there is room for.
+// The base is a number, as in the definition `digits`: an enum of two would be turned into it.
 fn put_digits(out: &mut [u8], base: usize, n: usize)
     requires { (2 ≤ base) × (base ≤ 16) }
     ensures { out.new ≡ digits base (length out.old) n }
@@ -109,6 +111,7 @@ impl<'a> Writer<'a> {
         self.put_field(16, FLOAT_DIGITS, f32_to_bits(x) as usize);
     }
 
+    // A `for` of one line, as for joints, marks and instances: by a closure, its contract would have to say its room.
     pub fn put_floats(&mut self, floats: &[f32])
         requires { HasRoom (number_bytes * length floats.now) self.old }
         ensures { WroteExactly (number_bytes * length floats.now)
@@ -145,6 +148,7 @@ impl<'a> Writer<'a> {
     }
 
     // The lines of the first `count` joints.
+    // A count beside the output, which may be longer: every caller has the count, and would cut by it.
     pub fn put_joints(&mut self, count: usize, output: &[f32])
         requires { (count ≤ max_joints) × HasRoom (joint_size * count) self.old × (output_at count ≤ length output.now) }
         ensures { WroteUpTo (joint_size * count) (joint_lines count output.now) self.old self.new }
@@ -153,4 +157,14 @@ impl<'a> Writer<'a> {
             self.put_joint(j, output);
         }
     }
+}
+
+// A refusal's line alone, over the front of `out`, and how many bytes that is; the others are left.
+pub fn put_only_refusal(refusal: Refusal, out: &mut [u8]) -> usize
+    requires { refusal_size ≤ length out.old }
+    ensures { Front (refused_line (number_of refusal.reason) refusal.place) out.old out.new result }
+{
+    let mut w = Writer::new(out);
+    w.put_refusal(refusal);
+    w.at
 }

@@ -2,10 +2,10 @@
 #![tactic(auto)]
 
 ghost use Rattle.std.specs.Prelude.{◌≡◌, ◌≤◌, length};
-ghost use Rattle.model.specs.Answers.{accepted, number_of};
+ghost use Rattle.model.specs.Answers.{accepted};
 ghost use Rattle.model.specs.Controller.{fresh};
 ghost use Rattle.model.specs.Run.{start_verdict};
-ghost use Rattle.model.specs.Program.{refused_line, played, figure_printed, printed_by};
+ghost use Rattle.model.specs.Program.{played, figure_printed, printed_by};
 ghost use Rattle.printing.specs.Written.{Front};
 ghost use Rattle.printing.specs.Sizes.{max_printed};
 ghost use Rattle.program.specs.Questions.{shown};
@@ -13,22 +13,13 @@ ghost use Rattle.program.specs.Questions.{shown};
 use controller::{frame, start};
 use inspect_uses::show_uses;
 use layout::{JOINT_COUNT_AT, MAX_PLAN, word};
+use model::Player;
 use model::limits::{MAX_NUMBERS, MAX_OUTPUT};
-use model::{Player, Refusal};
-use printing::{MAX_PRINTED, Writer};
+use printing::{MAX_PRINTED, Writer, put_only_refusal};
 use program_text::read_program_text;
 
-// A refusal's line alone.
-fn put_only_refusal(refusal: Refusal, out: &mut [u8]) -> usize
-    requires { max_printed ≤ length out.old }
-    ensures { Front (refused_line (number_of refusal.reason) refusal.place) out.old out.new result }
-{
-    let mut w = Writer::new(out);
-    w.put_refusal(refusal);
-    w.at
-}
-
 // One frame with ext 0 of a figure that was started.
+// The plan and the numbers stay two parameters, here and below, as `start`, `frame` and `uses` take them.
 fn first_frame(plan: &[u16], numbers: &[f32], player: Player, out: &mut [u8]) -> usize
     requires { (start_verdict plan.now numbers.now ≡ accepted)
         × (player ≡ fresh plan.now numbers.now)
@@ -54,6 +45,7 @@ fn play(plan: &[u16], numbers: &[f32], out: &mut [u8]) -> usize
 }
 
 // What is asked of a figure: by `gentianlathe` its first frame, by `inspect` what its verb says.
+// No closure: docs/PROOFS.md names `answer` of `Question::Frame`, and the theorem `frame_printed` speaks of it.
 #[derive(Drop)]
 pub enum Question {
     Frame,
@@ -71,6 +63,8 @@ fn show(question: Question, plan: &[u16], numbers: &[f32], out: &mut [u8]) -> us
 }
 
 // What is printed for a text, over the front of `out`, and how many bytes that is; the others are left.
+// `print_replay` begins alike, but answers an `io::Result`: one for both would need a closure's contract for both.
+// How many bytes, and not their slice: the promise `Front` is about all of `out`, what is left too.
 pub fn answer(question: Question, text: &[u8], out: &mut [u8; MAX_PRINTED]) -> usize
     ensures { Front (printed_by (shown question) text.now) out.old out.new result }
 {

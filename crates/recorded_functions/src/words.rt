@@ -16,6 +16,7 @@ const HEXADECIMAL: usize = 16;
 const WORD_DIGITS: usize = NUMBER_BYTES - 1;
 
 // A struct is its fields in order.
+// An impl for each struct, field by field: `rt ci` refuses a derive of one's own.
 pub trait Words: Sized {
     // How many words a value has.
     ghost word_count: { ℕ };

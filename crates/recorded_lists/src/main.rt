@@ -31,6 +31,7 @@ fn run_case<R: Read, W: Write>(input: &mut R, output: &mut W) -> Option<()> {
 }
 
 // A proved loop has to end, and nothing says that the input does.
+// The loop of recorded_texts too, whose comment says why it is not shared.
 fn main(rt: HostRuntime) {
     let mut input = rt.stdin();
     let mut output = rt.stdout();

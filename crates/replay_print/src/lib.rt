@@ -8,7 +8,7 @@ ghost use Rattle.std.specs.Fn.{FnOnceReturnsAtMut};
 use calls::check_calls;
 use layout::MAX_PLAN;
 use model::limits::MAX_NUMBERS;
-use model::{Player, Refusal};
+use model::Player;
 use printing::{REFUSAL_SIZE, Writer};
 use program_text::read_program_text;
 use replay_core::{Left, MAX_REPORT, begin, finish, perform, put_malformed};
@@ -16,14 +16,6 @@ use std::io::{self, Write};
 
 // Room for the longest report and some others, which are printed at once.
 const BUFFER_SIZE: usize = 2 * MAX_REPORT;
-
-fn print_refusal<W: Write>(output: &mut W, refusal: Refusal) -> io::Result<()> {
-    let mut out = [0u8; REFUSAL_SIZE];
-    let mut w = Writer::new(&mut out);
-    w.put_refusal(refusal);
-    let size = w.at;
-    output.write_all(&out[..size])
-}
 
 // What `put` puts over the front of a buffer.
 fn print_front<W: Write, P: FnOnce(&mut [u8; MAX_REPORT]) -> usize>(

@@ -58,6 +58,8 @@ fn identity_matrix() -> Matrix4
     }
 }
 
+// A matrix is read and written at a place: calls and C hand in the output as floats, and what is behind the matrices
+// stays. Its rows have names, so chunks of four would be named one by one as well.
 fn row_at(buffer: &[f32], at: usize) -> Row
     requires { at + 4 ≤ length buffer.now }
     ensures { result ≡ row_from (drop at buffer.now) }
@@ -100,6 +102,7 @@ fn set_matrix(buffer: &mut [f32], at: usize, m: Matrix4)
 }
 
 // The parent's matrix is read back from the buffer: parents come first. A parent that is no earlier joint is a root's.
+// It is found by its number, as document 01's plan has it.
 fn parent_matrix(plan: &Plan<'_>, buffer: &[f32], j: usize) -> Matrix4
     requires { (j < joint_count plan.now.words.now) × (output_at j ≤ length buffer.now) }
     ensures { result ≡ parent_in plan.now.words.now buffer.now j }
@@ -140,6 +143,7 @@ fn upper_transposed(m: Matrix4) -> Matrix4
 }
 
 // A joint's own matrix, from its pose's. The kind of frame makes no other difference.
+// A match and no closure: all contracts above speak of the kind, so each would have to say which closure is its.
 #[tactic(auto, unfolding(model::specs::Skeleton::own_matrix))]
 fn own_matrix(kind: FrameKind, m: Matrix4) -> Matrix4
     ensures { result ≡ own_matrix kind m }

@@ -83,6 +83,7 @@ fn show_frame<W: Write>(to: &mut W, figure: Figure<'_>, player: Player) {
 }
 
 // Three samples at two a second, x being 1, 2 and 4, at position 2.5.
+// `ending` is a word, which goes into the plan as it is.
 fn past_the_last<W: Write>(to: &mut W, ending: u16) {
     let figure = Figure {
         plan: &[1, 1, 0, 1, 0, NO_PARENT, 3, ending, 1, 0, 0, 0, 0, 0],
@@ -94,6 +95,7 @@ fn past_the_last<W: Write>(to: &mut W, ending: u16) {
     show_frame(to, figure, update(figure.start().player, 1.25));
 }
 
+// `paused` is alike but for its title and figure: what they share is `show_frame` and a loop of one line.
 pub fn held<W: Write>(to: &mut W) {
     show::text(
         to,
@@ -105,6 +107,7 @@ pub fn held<W: Write>(to: &mut W) {
 }
 
 // Half way between a pause and two samples at one a second, x being 2 and 6, at position 0.5. The pause's rate is 0.
+// `ending` as above.
 fn half_paused<W: Write>(to: &mut W, ending: u16) {
     let figure = Figure {
         plan: &[

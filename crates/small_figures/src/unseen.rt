@@ -63,6 +63,7 @@ fn played<W: Write>(to: &mut W, title: &[u8], unseen: f32) {
     }
 }
 
+// This and the next are one call each of what they share: a table of both and a loop would be no shorter.
 pub fn sevens<W: Write>(to: &mut W) {
     played(
         to,

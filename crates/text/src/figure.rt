@@ -11,6 +11,7 @@ use layout::{CLIP_COUNT_AT, JOINT_COUNT_AT, STATE_COUNT_AT};
 use model::{Lengths, LineKind, Reason, Refusal};
 
 // Of the header.
+// Others than plan's `Counts`: these say how many lines there are, those what a state's words may name.
 #[derive(Clone, Copy)]
 struct Counts {
     joints: usize,
@@ -41,6 +42,7 @@ impl Reader<'_> {
         self.read_lines(LineKind::Go, transitions)
     }
 
+    // As `read_lines`: one for both would have to say in its contract what a closure does to the reader.
     fn read_states(&mut self, count: usize) -> Result<(), Malformed>
         ensures { ReadTo (times count read_state) self.old self.new result }
     {

@@ -52,6 +52,7 @@ impl Reader<'_> {
 
     // ---- values, each behind those that were put before
 
+    // Beside `put_number`: a generic one would be lent slice, place and value, and give the place back to be stored.
     pub fn put_word(&mut self, value: usize)
         requires { (value ≤ max_word) × RoomFor 1 0 self.old.progress }
         ensures same { SameReader self.old self.new × (self.new.values ≡ self.old.values) }
@@ -81,6 +82,7 @@ impl Reader<'_> {
     }
 
     // A decimal goes to the plan, bits go to the numbers.
+    // The match of a `FieldForm`'s two kinds, which are data: `forms` has them.
     fn put_value(&mut self, form: FieldForm, value: usize)
         requires { Bounded form value
             × RoomFor (length (words_in (form ∷ []) (value ∷ []))) (length (bits_in (form ∷ []) (value ∷ []))) self.old.progress }

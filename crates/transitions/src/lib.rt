@@ -26,6 +26,7 @@ fn holds(operator: Operator, p: f32, v: f32) -> bool
     }
 }
 
+// The numbers stand beside the state, since a `State` is its plan's: `uses` reads states without them.
 fn condition_holds(
     state: &State<'_>,
     numbers: &[f32],

@@ -1,7 +1,7 @@
--- `program::put_only_refusal` meets its contract: a writer's text is the front of its slice. Assumes nothing.
+-- `printing::put_only_refusal` meets its contract: a writer's text is the front of its slice. Assumes nothing.
 use Rattle.std.proofs.Common.{arith, rules}
 use Rattle.printing.proofs.Laws.{front_written}
-use Rattle.program.proofs.put_only_refusal.Goals as goal
+use Rattle.printing.proofs.put_only_refusal.Goals as goal
 
 pub returns : goal.returns
 returns c =
