@@ -86,6 +86,7 @@ fn started_by(state: &State<'_>, numbers: &[f32], instant: f64, won: Option<usiz
     }
 }
 
+#[tactic(auto, unfolding(model::specs::Controller::is_ended))]
 fn is_ended(instant: f64, start: f64, duration: f32) -> bool
     ensures { result ≡ is_ended instant start duration }
 {
