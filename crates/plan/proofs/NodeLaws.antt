@@ -1,5 +1,5 @@
 -- Laws of a node's check and of the marks, over plain values. Assumes nothing.
-use Prim.Native.Nat.{ℕ, suc, ◌+◌, ◌*◌, ◌≤◌, ◌<◌}
+use Prim.Native.Nat.{ℕ, zero, suc, ◌+◌, ◌*◌, ◌≤◌, ◌<◌}
 use native.Mathlib.Numerals.{add-one}
 use native.Mathlib.Omega.{arith}
 use native.Mathlib.Decide.{ℕ_discrete, dec_lt}
@@ -15,7 +15,7 @@ use Rattle.std.specs.Prelude.{Result, Ok}
 use Rattle.model.specs.Answers.{Verdict, accepted, refused, values, ◌then◌, each, require}
 use Rattle.model.specs.Plan.{max_nodes, max_clip_nodes, word, kind_at, kind, is_clip, input_a, input_b, node_parameter, clip_node_at}
 use Rattle.model.specs.Check.{word_is, used, check_node}
-use Rattle.model.proofs.Laws.Answers.{then_left, then_right, each_stops}
+use Rattle.model.proofs.Laws.Answers.{then_left, then_right, then_refused}
 use Rattle.model.proofs.Laws.Tests.{word_true, and_left}
 use Rattle.model.proofs.Laws.ClipNodes.{first_clip_node, clip_counts, blend_counts_not}
 use Rattle.plan.specs.declared.words.Counts.{Counts}
@@ -195,11 +195,25 @@ marks_all plan s i marks so_far n h k = let q : n ≡ i = omega arith in rw q so
 
 -- ---- the search for a node that is no input
 
-module _ (marks : List Bool) (place : ℕ) {n k : ℕ} (so_far : Passing (λ k. require (get_or marks k false) 4 place) n k) (more : k < n) where
-  pub used_next : get_or marks k false ≡ true → Passing (λ k. require (get_or marks k false) 4 place) n (k + 1)
-  unfolding require values
-  used_next e = passing_next so_far more {A = Unit} tt (rw e)
+module _ (marks : List Bool) (place : ℕ) where
+  pub all_used : (n : ℕ) → ((k : ℕ) → k < n → get_or marks k false ≡ true) → accepted ≡ each n (λ k. require (get_or marks k false) 4 place)
+  unfolding each require ◌then◌
+  all_used zero all = refl
+  all_used (suc n) all = rw (← all_used n (λ k h. all k (omega arith)), all n (omega arith))
 
-  pub unused_stops : get_or marks k false ≡ false → refused 4 place 0 ≡ each n (λ k. require (get_or marks k false) 4 place)
-  unfolding require
-  unused_stops e = sym (each_stops n _ k 4 place 0 more so_far.passes (rw e))
+  one_more : (v : Verdict) (mark : Bool) → v then refused 4 place 0 ≡ refused 4 place 0 → v then require mark 4 place then refused 4 place 0 ≡ refused 4 place 0
+  unfolding require ◌then◌
+  one_more accepted true same = refl
+  one_more accepted false same = refl
+  one_more (refused number at rest) mark same = same
+
+  -- a refusal before is the same
+  any_before : (n : ℕ) → each n (λ k. require (get_or marks k false) 4 place) then refused 4 place 0 ≡ refused 4 place 0
+  unfolding each ◌then◌
+  any_before zero = refl
+  any_before (suc n) = one_more _ _ (any_before n)
+
+  pub one_unused : (n k : ℕ) → k < n → get_or marks k false ≡ false → each n (λ k. require (get_or marks k false) 4 place) ≡ refused 4 place 0
+  unfolding each require
+  one_unused zero k h e = absurd (omega arith)
+  one_unused (suc n) k h e = elim (ℕ_discrete k n) [ yes p ↦ rw (rw p at e) (any_before n) | no q ↦ then_refused _ _ 4 place 0 (one_unused n k (omega arith) e) ]

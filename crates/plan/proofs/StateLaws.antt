@@ -5,7 +5,8 @@ use mathlib.Core.Path.{◌≡◌, refl, sym, ◌∙◌}
 use mathlib.Core.Bool.{Bool, false}
 use mathlib.Core.List.{List}
 use lib.Dec.{leb}
-use lib.ListN.{get_or}
+use lib.ListN.{get_or, length, take}
+use Rattle.std.proofs.lemmas.List.{get_or-take, length-take-le}
 use borrow.Author.Tests.{leb-true}
 use Rattle.model.specs.declared.Refusal.{Refusal}
 use Rattle.std.specs.Prelude.{Result, Ok, Err}
@@ -24,6 +25,10 @@ each_same : (f g : ℕ → Verdict) (n : ℕ) → ((k : ℕ) → k < n → f k �
 unfolding each
 each_same f g zero same = refl
 each_same f g (suc n) same = rw (each_same f g n (λ k h. same k (omega arith)), same n (omega arith))
+
+-- the front of the marks is looked through
+front_same : (marks : List Bool) (n at : ℕ) → n ≤ length marks → each (length (take n marks)) (λ j. require (get_or (take n marks) j false) 4 at) ≡ each n (λ j. require (get_or marks j false) 4 at)
+front_same marks n at inside = rw (length-take-le n marks inside) (each_same _ _ n (λ j h. rw (get_or-take n marks j false h)))
 
 -- ---- transitions of state s
 
@@ -65,6 +70,10 @@ module _ {plan : List ℕ} {at k : ℕ} (so_far : Counted plan at k) where
   pub nodes_between : (1 ≤ k) × (k ≤ max_nodes)
   nodes_between = let ok = word_true _ _ _ _ so_far.passes in rw so_far.count (within_low _ _ _ ok, within_high _ _ _ ok)
 
+  -- so there are marks for all nodes but the last
+  pub front_inside : (marks : List Bool) → length marks ≡ max_nodes + 1 → k - 1 ≤ length marks
+  front_inside marks sized = omega (arith, nodes_between, sized)
+
   module _ (s : ℕ) (place : at ≡ state_at plan s) where
     state_parts : check_state plan s ≡ tree_of plan s at k then word_is plan 2 (at + 1 + 4 * k) (leb (word plan (at + 1 + 4 * k)) max_transitions) then each (word plan (at + 1 + 4 * k)) (check_transition plan s)
     state_parts = parts plan s at k place so_far.count
@@ -73,10 +82,11 @@ module _ {plan : List ℕ} {at k : ℕ} (so_far : Counted plan at k) where
     nodes_stop A e told = more A e _ _ (more A e _ _ (more A e _ _ (told ∙ sym (then_accepted _ _ so_far.passes)))) ∙ sym state_parts
 
     -- then the nodes are looked for among the marks
-    module _ (marks : List Bool) {N : Type 0} (x : N) (nodes : values {A = N} (Ok x) ≡ each k (check_node plan s)) (mark : Marks plan s k marks) {A : Type 0} (a : Result A Refusal) (told : values a ≡ each (k - 1) (λ j. require (get_or marks j false) 4 at)) where
+    module _ (marks : List Bool) {N : Type 0} (x : N) (nodes : values {A = N} (Ok x) ≡ each k (check_node plan s)) (mark : Marks plan s k marks) (sized : length marks ≡ max_nodes + 1) {A : Type 0} (a : Result A Refusal)
+        (told : values a ≡ each (length (take (k - 1) marks)) (λ j. require (get_or (take (k - 1) marks) j false) 4 at)) where
       three : values a ≡ tree_of plan s at k
       three =
-          told ∙ each_same _ _ (k - 1) (λ j h. rw (mark.mark j (omega (arith, nodes_between)))) ∙ sym (then_accepted _ _ (then_accepted _ _ so_far.passes ∙ passed x _ nodes))
+          told ∙ front_same marks (k - 1) at (front_inside marks sized) ∙ each_same _ _ (k - 1) (λ j h. rw (mark.mark j (omega (arith, nodes_between)))) ∙ sym (then_accepted _ _ (then_accepted _ _ so_far.passes ∙ passed x _ nodes))
 
       pub inputs_stop : (e : Refusal) → a ≡ Err e → values a ≡ check_state plan s
       inputs_stop e q = rw q (more A e _ _ (more A e _ _ (rw q at three))) ∙ sym state_parts

@@ -27,10 +27,7 @@ pub mod words;
 pub fn answer_of<T: Copy>(checked: Result<T, Refusal>) -> Answer
     ensures { values result ≡ values checked }
 {
-    match checked {
-        Ok(_) => Ok(()),
-        Err(refusal) => Err(refusal),
-    }
+    checked.map(|_| ())
 }
 
 // Refusals 1 to 5 and 14: every word that the plan says it has.

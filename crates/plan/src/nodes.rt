@@ -1,5 +1,5 @@
 // The nodes of a state. Marks say which of them are inputs so far.
-ghost use Rattle.std.specs.Prelude.{◌≡◌, false, ◌+◌, ◌*◌, ◌≤◌, get_or};
+ghost use Rattle.std.specs.Prelude.{◌≡◌, false, ◌+◌, ◌*◌, ◌≤◌, get_or, length};
 ghost use Rattle.model.specs.Answers.{values, each, require};
 ghost use Rattle.model.specs.Text.{max_word};
 ghost use Rattle.model.specs.Plan.{max_nodes, max_plan};
@@ -131,15 +131,12 @@ pub fn check_nodes(
     Ok(())
 }
 
-// The first n nodes are inputs; else the refusal is at the place of K.
-pub fn check_used(used: &[bool; MARKS], n: usize, place: usize) -> Answer
-    requires { n ≤ max_nodes }
-    ensures { values result ≡ each n (λ k. require (get_or used.now k false) 4 place) }
+// The nodes with these marks are inputs; else the refusal is at the place of K.
+pub fn check_used(used: &[bool], place: usize) -> Answer
+    ensures { values result ≡ each (length used.now) (λ k. require (get_or used.now k false) 4 place) }
 {
-    for k in 0..n {
-        if !used[k] {
-            return Err(Reason::Node.at(place));
-        }
+    if used.contains(&false) {
+        return Err(Reason::Node.at(place));
     }
     Ok(())
 }

@@ -49,7 +49,7 @@ fn check_state(plan: &[u16], at: usize, counts: Counts, clip_node: usize) -> Ans
     let nodes = word(plan, at);
     let mut used = [false; MARKS];
     check_nodes(plan, at, nodes, counts, clip_node, &mut used)?;
-    check_used(&used, nodes - 1, at)?;
+    check_used(&used[..nodes - 1], at)?;
     let transitions_at = at + 1 + NODE_WORDS * nodes;
     word_up_to(plan, Reason::Count, transitions_at, MAX_TRANSITIONS)?;
     let n = word(plan, transitions_at);

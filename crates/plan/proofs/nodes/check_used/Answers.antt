@@ -1,22 +1,25 @@
--- `plan::nodes::check_used` meets its contract. Invariant: the first k nodes are inputs. Assumes nothing.
+-- `plan::nodes::check_used` meets its contract: a node without a mark is refused wherever it stands. Assumes nothing.
+use native.Mathlib.Omega.{arith}
+use mathlib.Core.Path.{◌≡◌, refl, sym}
+use mathlib.Core.Bool.{Bool, true, false, beq}
 use Rattle.model.specs.Answers.{values}
-use Rattle.plan.proofs.Laws.{passing_none, passing_all}
-use Rattle.plan.proofs.NodeLaws.{used_next, unused_stops}
+use Rattle.plan.proofs.NodeLaws.{all_used, one_unused}
 use Rattle.plan.proofs.nodes.check_used.Goals as goal
 
-pub returns-then-not-used-k : goal.returns-then-not-used-k
+mark_is_not : (mark : Bool) → beq mark false ≡ true → mark ≡ false
+mark_is_not false e = refl
+mark_is_not true e = cc
+
+mark_is : (mark : Bool) → beq mark false ≡ false → mark ≡ true
+mark_is false e = cc
+mark_is true e = refl
+
+pub returns-then-contains : goal.returns-then-contains
 unfolding values
-returns-then-not-used-k c =
-    let a = c.args in
-    rw c.at.ensures (unused_stops a.used.now a.place c.loop-k.invariant c.loop-k-test.true c.if-not-used-k.true)
-
-pub loop-k-preserved : goal.loop-k-preserved
-loop-k-preserved c =
-    let a = c.args in
-    used_next a.used.now a.place c.loop-k.invariant c.loop-k-test.true c.if-not-used-k.false
-
-pub loop-k-init : goal.loop-k-init
-loop-k-init c = passing_none _ _
+returns-then-contains c =
+    let (k, inside, none) = c.if-contains.ensures.cases in
+    rw c.at.ensures (sym (one_unused c.args.used.now c.args.place _ k inside (mark_is_not _ (none false))))
 
 pub returns : goal.returns
-returns c = passing_all c.loop-k.invariant _ c.loop-k-test.false
+unfolding values
+returns c = all_used c.args.used.now c.args.place _ (λ k h. mark_is _ (c.if-contains.ensures.cases k false (omega arith) h))

@@ -1,11 +1,12 @@
 -- `plan::states::check_state` meets its contract: the parts of a state in the definition's order. Assumes nothing.
 use native.Mathlib.Omega.{arith}
-use mathlib.Core.Path.{◌≡◌, refl}
+use mathlib.Core.Path.{◌≡◌, refl, sym}
 use Prim.Native.Nat.{ℕ}
+use Rattle.std.proofs.lemmas.List.{length-take-le}
 use Rattle.model.specs.Answers.{accepted}
 use Rattle.model.proofs.Laws.Exits.{leaves}
 use Rattle.plan.specs.Parts.{Begins}
-use Rattle.plan.proofs.StateLaws.{tree_of, count_stops, Counted, is_counted, nodes_between, nodes_stop, inputs_stop, is_tree, transition_count_stops, transitions_few, transitions_end}
+use Rattle.plan.proofs.StateLaws.{tree_of, count_stops, Counted, is_counted, nodes_between, front_inside, nodes_stop, inputs_stop, is_tree, transition_count_stops, transitions_few, transitions_end}
 use Rattle.plan.proofs.states.check_state.Goals as goal
 use Rattle.plan.proofs.states.check_state.Goals.{After-word-nodes, In_ok-check_used}
 
@@ -25,21 +26,25 @@ pub returns-in_err-check_nodes : goal.returns-in_err-check_nodes
 returns-in_err-check_nodes c =
     record { answer = λ s b. leaves _ _ _ _ c.from_residual-in_err-check_nodes.ensures.1 (nodes_stop (counted (goal.at.returns-in_err-check_nodes c).After-word-nodes) _ b.place _ _ (c.in_err-check_nodes.ensures.answer s b)) }
 
-pub overflow_sub-nodes : goal.overflow_sub-nodes
-overflow_sub-nodes c = omega (arith, nodes_between (counted (goal.at.overflow_sub-nodes c).After-word-nodes))
+pub slice_bounds-used-count : goal.slice_bounds-used-count
+slice_bounds-used-count c = omega (arith, nodes_between (counted (goal.at.slice_bounds-used-count c).After-word-nodes))
 
-pub check_used-requires : goal.check_used-requires
-check_used-requires c = omega (arith, nodes_between (counted (goal.at.check_used-requires c).After-word-nodes))
+pub slice_bounds-used-end : goal.slice_bounds-used-end
+slice_bounds-used-end c = front_inside (counted (goal.at.slice_bounds-used-end c).After-word-nodes) _ c.check_nodes.array_long
+
+pub slice_bounds-check_used-length : goal.slice_bounds-check_used-length
+slice_bounds-check_used-length c =
+    sym (length-take-le _ _ (front_inside (counted (goal.at.slice_bounds-check_used-length c).After-word-nodes) _ c.check_nodes.array_long))
 
 pub returns-in_err-check_used : goal.returns-in_err-check_used
 returns-in_err-check_used c =
     let nodes = c.in_ok-check_nodes.ensures in
-    record { answer = λ s b. leaves _ _ _ _ c.from_residual-in_err-check_used.ensures.1 (inputs_stop (counted (goal.at.returns-in_err-check_used c).After-word-nodes) _ b.place _ _ (nodes.answer s b) (nodes.marked s b) _ c.in_err-check_used.ensures _ refl) }
+    record { answer = λ s b. leaves _ _ _ _ c.from_residual-in_err-check_used.ensures.1 (inputs_stop (counted (goal.at.returns-in_err-check_used c).After-word-nodes) _ b.place _ _ (nodes.answer s b) (nodes.marked s b) c.check_nodes.array_long _ c.in_err-check_used.ensures _ refl) }
 
 tree : (c : In_ok-check_used) (s : ℕ) → let a = c.args in Begins a.plan.now s a.at a.clip_node → tree_of a.plan.now s a.at c.word-nodes.result ≡ accepted
 tree c s b =
     let nodes = c.in_ok-check_nodes.ensures in
-    is_tree (is_counted _ _ _ c.word-nodes.ensures.0 _ c.in_ok-word_within.ensures) _ b.place _ _ (nodes.answer s b) (nodes.marked s b) _ c.in_ok-check_used.ensures _ refl
+    is_tree (is_counted _ _ _ c.word-nodes.ensures.0 _ c.in_ok-word_within.ensures) _ b.place _ _ (nodes.answer s b) (nodes.marked s b) c.check_nodes.array_long _ c.in_ok-check_used.ensures _ refl
 
 pub returns-in_err-word_up_to : goal.returns-in_err-word_up_to
 returns-in_err-word_up_to c =
