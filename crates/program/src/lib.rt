@@ -1,13 +1,12 @@
 // The programs' work: from the bytes of a figure's text to the bytes that are printed, by what is asked of the figure.
 #![tactic(auto)]
 
-ghost use Rattle.std.specs.Prelude.{◌≡◌, ◌≤◌, length};
+ghost use Rattle.std.specs.Prelude.{◌≡◌};
 ghost use Rattle.model.specs.Answers.{accepted};
 ghost use Rattle.model.specs.Controller.{fresh};
 ghost use Rattle.model.specs.Run.{start_verdict};
 ghost use Rattle.model.specs.Program.{played, figure_printed, printed_by};
 ghost use Rattle.printing.specs.Written.{Front};
-ghost use Rattle.printing.specs.Sizes.{max_printed};
 ghost use Rattle.program.specs.Questions.{shown};
 
 use controller::{frame, start};
