@@ -29,6 +29,7 @@ fn next_sample(sample: u64, n: u64) -> u64
 }
 
 // One division: the ceiling is the floor or the index after it.
+// A count and no NonZero: a clip may be without samples, and each use would take the number out again.
 pub fn position_in(samples: usize, position: f32) -> Position
     requires { 0 < samples }
     ensures { result ≡ position_in samples position }
@@ -78,6 +79,7 @@ pub fn local_time(i: ClipInstance, time: f32) -> f32
     (time - i.start) * i.rate + i.offset
 }
 
+// The start by its name: `..i` would stand for that one field.
 pub fn set_playback_rate(i: ClipInstance, time: f32, rate: f32) -> ClipInstance
     ensures { result ≡ set_playback_rate i time rate }
 {
@@ -92,6 +94,8 @@ pub fn set_playback_rate(i: ClipInstance, time: f32, rate: f32) -> ClipInstance
 }
 
 // Instance n of a player's.
+// By place, here and below, since hosts too hold them in one array (model's `Player`): to cut three floats out and
+// `unwrap` them as an array is no shorter.
 pub fn instance_at(instances: &[f32; MAX_INSTANCES], n: usize) -> ClipInstance
     requires { n < max_clip_nodes }
     ensures { result ≡ instance_at instances.now n }
@@ -112,6 +116,7 @@ pub fn set_instance(instances: &mut [f32; MAX_INSTANCES], n: usize, i: ClipInsta
     instances[INSTANCE_FLOATS * n + 2] = i.offset;
 }
 
+// By place: the pattern of an array of eight would need other names for one of the two x, y and z.
 fn pose_from(numbers: &[f32], at: usize) -> Pose
     requires { at + 8 ≤ length numbers.now }
     ensures { result ≡ pose_from numbers.now at }

@@ -73,6 +73,7 @@ impl<'a> StateAt<'a> {
 
 impl<'a> Source<'a> {
     // A node's poses come from those of its inputs, which are earlier nodes, down to clips.
+    // The inputs are numbers, as in document 01's plan: a tree of boxes would need a heap.
     fn node_poses(&self, joints: Joints, node: usize, block: &mut Block)
         requires { InBlock self.now.state.figure.plan.layout joints
             × (node < self.now.state.here.nodes) }

@@ -166,7 +166,8 @@ fn loops_line(mut line: Cursor) -> Option<CallAt>
 }
 
 // The call in the line that begins at `at`; none where that line is malformed.
-// Name by name, as the definition `call_in`: a match on a name would first have to look for its end.
+// Of a text and a place, as docs/PROOFS.md has it. The names are tried in turn, as in `call_in`: to match on one, its
+// end would have to be found first.
 pub fn call_at(text: &[u8], at: usize) -> Option<CallAt>
     ensures value { result ≡ call_at text.now at }
     ensures result_value { line_read text.now result ≡ call_in (drop at text.now) }
@@ -198,6 +199,7 @@ fn line_count(text: &[u8]) -> usize
 }
 
 // How many lines a list has, if each is a call and nothing is left behind the last.
+// By place and not over lines: `call_at` takes a place, and gives the one behind its line.
 pub fn check_calls(text: &[u8]) -> Result<usize, Malformed>
     ensures { result ≡ checked (line_count text.now) (call_list text.now) }
 {

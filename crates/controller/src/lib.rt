@@ -17,6 +17,7 @@ use model::limits::{INSTANCE_FLOATS, MAX_CLIP_NODES, MAX_INSTANCES, MAX_PARAMETE
 use model::{FrameKind, Outcome, Player, Reason, Transition};
 use plan::{answer_of, figure};
 
+// Every third float: a player's instances are one array, and model's `Player` says why.
 fn blank_instances() -> [f32; MAX_INSTANCES]
     ensures { result ≡ blank_instances max_clip_nodes }
 {

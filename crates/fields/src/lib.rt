@@ -1,4 +1,5 @@
 // The name or the field at a place of a text. The cursor that walks over a line's fields is in `text::lines`.
+// All is on a slice and a place: document 01 asks for a cursor of few thin functions over such a core.
 #![tactic(auto)]
 
 ghost use Rattle.std.specs.Prelude.{◌≡◌, cond, ℕ, ◌+◌, ◌-◌, ◌<◌, ◌≤◌, ◌^◌, length, get_or, drop};
@@ -70,6 +71,8 @@ fn digit(b: u8) -> usize
 
 // The run that begins at `at`. Once its number is above `most` it is not counted further, so that a long run cannot
 // overflow.
+// Not by `from_str_radix`, here and below: it takes a sign and upper case, and document 01's fields have neither. The
+// base is a number, as in `digit_count`: an enum of two would be turned into it.
 fn run_at(text: &[u8], at: usize, base: usize, most: usize) -> Field
     requires { (1 ≤ base) × (base ≤ 16) × (most < 2 ^ 60) }
     ensures { (result.end ≡ at + digit_count base (drop at text.now))

@@ -63,6 +63,7 @@ pub fn widen(x: f32) -> f64
 // ---- narrowing, by the cases of IEEE 754: docs/NARROWING.md has the standard's sentence, the predicate and the branch side by side
 
 // n / 2 ^ k rounded to a whole number (4.3.1, round_ties_to_even): the nearer one, and half way the even one.
+// By < and >: docs/NARROWING.md sets these branches beside the standard's sentences.
 fn rounding_shift(n: u64, k: u64) -> u64
     requires { (0 < k) × (k < 64) }
     ensures { result ≡ closest n (2 ^ k) }

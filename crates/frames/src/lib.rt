@@ -54,6 +54,7 @@ pub struct FrameParts {
     pub transition: Transition,
 }
 
+// By match: with `matches!` it would be two of them, or the negation of a target that is not below.
 fn is_target_below(n: usize, transition: Transition) -> bool
     ensures { result ≡ is_target_below n transition }
 {
@@ -165,6 +166,7 @@ fn frame_answer(figure: &Figure<'_>, parts: Parts, length: usize) -> Answer
 }
 
 // One function for both kinds, so that the compiler can inline the work.
+// Its parameters are those of the calls, with a player's arrays as a C host lends them (`host_frame`).
 pub fn frame(
     kind: FrameKind,
     plan: &[u16],

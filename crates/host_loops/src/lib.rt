@@ -18,6 +18,7 @@ pub struct HostLoops {
     pub rest: usize,
 }
 
+// One match and no `From`: nothing else makes one, and an `impl` would hold the same match.
 pub fn host_loops(
     plan: &[u16],
     numbers: &[f32],

@@ -18,6 +18,7 @@ pub struct HostUses {
     pub clips: [bool; MAX_CLIPS],
 }
 
+// One match and no `From`: nothing else makes one, and an `impl` would hold the same match.
 pub fn host_uses(plan: &[u16], numbers: &[f32]) -> HostUses
     ensures { HostUsesFound plan.now numbers.now result }
 {

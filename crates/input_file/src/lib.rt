@@ -33,6 +33,7 @@ fn words(text: &[u8]) -> &[u8] {
 }
 
 // Says on `out`, which is standard error, what failed and why, as a line.
+// `what` is bytes, since it may be a path.
 pub fn complain<W: Write>(out: &mut W, what: &[u8], error: Error) {
     let mut text = [0u8; REASON_SIZE];
     let mut rest = &mut text[..];

@@ -28,6 +28,7 @@ impl From<io::Error> for Failure {
 const ARGUMENT: &[u8] = b"inspect: an argument";
 
 // A line for each verb, and one for what it prints.
+// Bytes by `write_all`: there is nothing to format.
 fn write_usage<W: Write>(out: &mut W) -> io::Result<()> {
     out.write_all(
         b"usage: inspect uses FIGURE\nprints which states, parameters and clips of the figure in FIGURE can ever matter (1) and which never do (0)\n",
@@ -35,6 +36,7 @@ fn write_usage<W: Write>(out: &mut W) -> io::Result<()> {
 }
 
 // Says what is wrong with the arguments.
+// By `write_all`, part by part: a name is an argument's bytes, which need not be UTF-8.
 fn refuse(rt: &HostRuntime, what: &[u8], name: &[u8]) -> Failure {
     let mut err = rt.stderr();
     for part in [b"inspect: ", what, name, b"\n"] {

@@ -1,4 +1,5 @@
 // What `inspect uses` prints: which states, parameters and clips a figure can use.
+// It is not printed by `Display`: the head of `printing` says why.
 #![tactic(auto)]
 
 ghost use Rattle.std.specs.Prelude.{◌+◌, ◌*◌, ◌≤◌, length};
@@ -54,6 +55,7 @@ fn put_uses(w: &mut Writer<'_>, plan: &[u16], marks: &Uses)
 }
 
 // What `inspect uses` prints of a figure, over the front of `out`, and how many bytes that is; the others are left.
+// How many bytes, and not their slice: the promise `Front` is about all of `out`, what is left too.
 pub fn show_uses(plan: &[u16], numbers: &[f32], out: &mut [u8]) -> usize
     requires { max_uses_printed ≤ length out.old }
     ensures { Front (uses_shown plan.now numbers.now) out.old out.new result }

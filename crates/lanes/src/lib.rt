@@ -28,6 +28,8 @@ pub const BLANK: Block = [Pose {
 }; BLOCK_SIZE];
 
 // A row of joints. Lane i of their block is joint first + i.
+// Beside a block and not in it, since two blocks are filled for one row. It has no ghost field: `InBlock` holds it to a
+// figure's layout, and a bound of the count alone would take the place of two clauses.
 #[derive(Clone, Copy)]
 pub struct Joints {
     pub first: usize,
@@ -35,6 +37,7 @@ pub struct Joints {
 }
 
 // Each of x's first lanes, combined with y's.
+// By index: to zip them, both blocks would first be cut to `count`.
 pub fn combine_all<F: Fn(Pose, Pose) -> Pose>(x: &mut Block, y: &Block, count: usize, combine: F)
     requires small { count ≤ block_size }
     requires callable { F.IsAlwaysCallable combine }

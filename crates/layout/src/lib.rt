@@ -1,4 +1,5 @@
-// Where the words and numbers of a plan stand. `passed` has what is read of a plan that passed its check. No other crate adds up places; what each one is stands in model's Plan.
+// Where the words and numbers of a plan stand. `passed` has what is read of a plan that passed its check. Beside the check, no other crate adds up places of words; what each one is stands in model's Plan.
+// The plan is document 01's row of words, each count before what it counts: so it has places, and no slices of nodes.
 #![tactic(auto)]
 
 ghost use Rattle.std.specs.Prelude.{◌≡◌, List, ℕ, ◌+◌, ◌*◌, ◌<◌, ◌≤◌, length, get_or};
@@ -148,6 +149,7 @@ pub struct TransitionNumbers {
 }
 
 // A word, 0 past the end.
+// As usize, since places are added up from words; `_ ≤ max_word` in a contract keeps such sums from overflowing.
 pub fn word(plan: &[u16], i: usize) -> usize
     ensures { (result ≡ word plan.now i) × (result ≤ max_word) }
 {
@@ -218,6 +220,7 @@ pub fn rate(numbers: &[f32], c: usize) -> f32
 
 // Of a transition that the state has.
 // Two floats of their own: what reads words into a struct does not read these.
+// One by one, since nothing asked here says that both are there: `number` gives NaN past the end.
 pub fn numbers_at(numbers: &[f32], here: StateLayout, t: usize) -> TransitionNumbers
     requires { HasTransition here t }
     ensures { (plan : List ℕ) → InPlan plan here → result ≡ numbers_of plan numbers.now here.state t }

@@ -95,6 +95,7 @@ impl<'a> Plan<'a> {
 impl<'a> State<'a> {
     // Nodes and conditions are read word by word: a trait with their sizes would have each list its fields as well.
     // Of a node that the state has.
+    // Word by word, as in `condition`: out of an array's pattern each would have to be widened all the same.
     pub fn node(&self, i: usize) -> Node
         requires { i < self.now.here.nodes }
         ensures { result ≡ node_of self.now.plan.words.now self.now.here.state i }

@@ -31,6 +31,7 @@ const NOT_LOOPING: Refusal = Refusal {
 };
 
 // A position's floor as an index.
+// By `as`: `try_from` would have an error that nobody can meet, since a usize has 64 bits here.
 fn played_index(position: f32) -> usize
     ensures { result ≡ floor_index position }
 {
@@ -81,6 +82,7 @@ fn count_at(
     Ok(index_counted(clip.samples, played_index(position)))
 }
 
+// State, node and time stay three parameters: the call is README's and C's.
 pub fn loops(
     plan: &[u16],
     numbers: &[f32],

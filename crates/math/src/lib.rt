@@ -9,17 +9,12 @@ ghost use Rattle.math.specs.Scaling.{scaled_by_root, turned_row, turned, turned_
 
 use model::{Matrix4, Quaternion, Row};
 
-// inv_sqrt's first guess, on bit patterns. The Rust shifts and subtracts a signed number; here its top bit is copied
-// and the subtraction is u32's wrapping one, which gives the same 32 bits.
+// inv_sqrt's first guess, on bit patterns: the shift copies the sign bit, and the subtraction wraps.
 pub fn first_guess(bits: u32) -> u32
     ensures { result ≡ first_guess bits }
 {
-    let shifted = if bits < 0x8000_0000 {
-        bits >> 1
-    } else {
-        (bits >> 1) + 0x8000_0000
-    };
-    0x5f37_59df_u32.wrapping_sub(shifted)
+    let shifted = bits.cast_signed() >> 1;
+    0x5f37_59df_i32.wrapping_sub(shifted).cast_unsigned()
 }
 
 pub fn inv_sqrt(x: f32) -> f32

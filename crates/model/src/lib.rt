@@ -68,7 +68,8 @@ pub enum Transition {
     },
 }
 
-// The instances are so many times start, rate and offset in one array, so that they can be lent without a copy.
+// The instances are so many times start, rate and offset in one array of floats, as `instance_at` of the definitions
+// reads them and as hosts hold them, so that a host's are lent without a copy.
 #[derive(Clone, Copy)]
 pub struct Player {
     pub clock: f64,

@@ -176,6 +176,7 @@ fn show_transition(
 
 // A state and its transition, if one is under way. Then it shows itself by the instances that it had before the
 // target's rates were set, as the Rust does.
+// The two arrays stay apart: the instances are lent to be changed first, and then shared, in a `Source`.
 pub fn show(
     kind: FrameKind,
     state: &StateAt<'_>,

@@ -16,6 +16,7 @@ use model::{Answer, Reason};
 pub const MARKS: usize = MAX_NODES + 1;
 
 // A node by its number in its state: the word of its kind, and the number that it has if it is a clip.
+// It has no ghost field: laws of `check_node_at` make such records of any numbers, and would have to prove it there.
 #[derive(Clone, Copy)]
 pub struct NodePlace {
     pub i: usize,
@@ -100,6 +101,7 @@ fn counted(plan: &[u16], at: usize, clip_node: usize) -> usize
 }
 
 // The first n nodes of the state whose K is the word `at`. Their marks are left in `used`.
+// At a place, like all of the check: words.rt says why.
 pub fn check_nodes(
     plan: &[u16],
     at: usize,

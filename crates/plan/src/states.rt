@@ -29,6 +29,7 @@ fn check_transition(plan: &[u16], at: usize, counts: Counts) -> Answer
 }
 
 // The first n of those that begin at `from`.
+// At a place, like all of the check: words.rt says why.
 fn check_transitions(plan: &[u16], from: usize, n: usize, counts: Counts) -> Answer
     requires { from + 3 * n ≤ max_word }
     ensures { values result ≡ each n (λ t. check_transition_at plan.now counts (from + 3 * t)) }

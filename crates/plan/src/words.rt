@@ -13,6 +13,7 @@ use model::limits::{MAX_CLIPS, MAX_JOINTS, MAX_PARAMETERS, MAX_SAMPLES, MAX_STAT
 use model::{Answer, Reason};
 
 // The header's counts that words of states are held against.
+// It has no ghost field: definitions take it beside any list of words, and `CountsOf` says whose counts these are.
 #[derive(Clone, Copy)]
 pub struct Counts {
     pub clips: usize,
@@ -22,6 +23,7 @@ pub struct Counts {
 
 // A word that is missing, or fails its test, is refused.
 // What is tested is told by a bool, since some tests are not of the word alone (`is_free`, `a != b`, `is_root`).
+// At a place: a plan may end anywhere, so nothing can be cut out of it beforehand, and a refusal names the place.
 pub fn word_is(plan: &[u16], reason: Reason, at: usize, ok: bool) -> Answer
     ensures { values result ≡ word_is plan.now (number_of reason) at ok }
 {

@@ -48,6 +48,7 @@ fn places(n: usize) -> usize
 }
 
 // The last digits of n, as many as there is room for.
+// The base is a number, as in the definition `digits`: an enum of two would be turned into it.
 fn put_digits(out: &mut [u8], base: usize, n: usize)
     requires { (2 ≤ base) × (base ≤ 16) }
     ensures { out.new ≡ digits base (length out.old) n }
@@ -147,6 +148,7 @@ impl<'a> Writer<'a> {
     }
 
     // The lines of the first `count` joints.
+    // A count beside the output, which may be longer: every caller has the count, and would cut by it.
     pub fn put_joints(&mut self, count: usize, output: &[f32])
         requires { (count ≤ max_joints) × HasRoom (joint_size * count) self.old × (output_at count ≤ length output.now) }
         ensures { WroteUpTo (joint_size * count) (joint_lines count output.now) self.old self.new }

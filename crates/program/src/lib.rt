@@ -19,10 +19,10 @@ use printing::{MAX_PRINTED, Writer, put_only_refusal};
 use program_text::read_program_text;
 
 // One frame with ext 0 of a figure that was started.
-fn first_frame(plan: &[u16], numbers: &[f32], player: Player, out: &mut [u8]) -> usize
+// The plan and the numbers stay two parameters, here and below, as `start`, `frame` and `uses` take them.
+fn first_frame(plan: &[u16], numbers: &[f32], player: Player, out: &mut [u8; MAX_PRINTED]) -> usize
     requires { (start_verdict plan.now numbers.now ≡ accepted)
-        × (player ≡ fresh plan.now numbers.now)
-        × (max_printed ≤ length out.old) }
+        × (player ≡ fresh plan.now numbers.now) }
     ensures { Front (played plan.now numbers.now accepted) out.old out.new result }
 {
     let mut floats = [0.0f32; MAX_OUTPUT];
@@ -32,8 +32,7 @@ fn first_frame(plan: &[u16], numbers: &[f32], player: Player, out: &mut [u8]) ->
     w.at
 }
 
-fn play(plan: &[u16], numbers: &[f32], out: &mut [u8]) -> usize
-    requires { max_printed ≤ length out.old }
+fn play(plan: &[u16], numbers: &[f32], out: &mut [u8; MAX_PRINTED]) -> usize
     ensures { Front (figure_printed plan.now numbers.now) out.old out.new result }
 {
     let begun = start(plan, numbers);
@@ -51,8 +50,7 @@ pub enum Question {
     Uses,
 }
 
-fn show(question: Question, plan: &[u16], numbers: &[f32], out: &mut [u8]) -> usize
-    requires { max_printed ≤ length out.old }
+fn show(question: Question, plan: &[u16], numbers: &[f32], out: &mut [u8; MAX_PRINTED]) -> usize
     ensures { Front (shown question plan.now numbers.now) out.old out.new result }
 {
     match question {
@@ -63,6 +61,7 @@ fn show(question: Question, plan: &[u16], numbers: &[f32], out: &mut [u8]) -> us
 
 // What is printed for a text, over the front of `out`, and how many bytes that is; the others are left.
 // `print_replay` begins alike, but answers an `io::Result`: one for both would need a closure's contract for both.
+// How many bytes, and not their slice: the promise `Front` is about all of `out`, what is left too.
 pub fn answer(question: Question, text: &[u8], out: &mut [u8; MAX_PRINTED]) -> usize
     ensures { Front (printed_by (shown question) text.now) out.old out.new result }
 {

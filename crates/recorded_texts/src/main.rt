@@ -37,7 +37,8 @@ fn read_text<'a, R: Read>(
 }
 
 // A text for the program, or one whose uses are asked: their headers have the same form.
-// The letter is made a `Question` where it is read, which `answer` takes.
+// The letter is made a `Question` where it is read, which `answer` takes. Input and output stay two parameters: a struct
+// with its impl would be longer than what three functions pass on.
 fn run_text<R: Read, W: Write>(input: &mut R, output: &mut W, header: &[u8]) -> Option<()> {
     let mut text = [0u8; TEXT_SIZE];
     let text = read_text(input, header, 5, &mut text)?;

@@ -1,6 +1,7 @@
 // A list of calls performed on a figure, with what each call shows put into a slice of bytes. A long list shows more
 // than any buffer holds, so `perform` stops where there is no room for another report and says how far it came; its
 // caller prints, and goes on from there.
+// It is not printed by `Display`: the head of `printing` says why.
 #![tactic(auto)]
 
 ghost use Rattle.std.specs.Prelude.{◌≡◌, ℕ, List, [], ◌≤◌, length, Ok, None};
@@ -64,6 +65,7 @@ pub struct Progress {
 // The plan and the numbers stay two parameters, as the calls of `controller` and `loops`, which may not change, take them.
 
 // A call that has no matrices to show and is told nothing.
+// No `From`, here and below: an `impl` would be longer, and the names say which of the two is made.
 fn done(outcome: Outcome) -> CallDone
     ensures { result ≡ nothing_shown outcome }
 {
@@ -184,6 +186,7 @@ fn put_call(w: &mut Writer<'_>, call: CallDone, floats: &[f32; MAX_OUTPUT])
 // ---- a list
 
 // The start's answer and player.
+// How many bytes, here and below, and not their slice: the promises are about all of `out`, what is left too.
 pub fn begin(plan: &[u16], numbers: &[f32], out: &mut [u8; MAX_REPORT]) -> Begun
     ensures { Beginning plan.now numbers.now out.old out.new result }
 {

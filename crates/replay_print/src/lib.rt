@@ -7,9 +7,9 @@ ghost use Rattle.std.specs.Fn.{FnOnceReturnsAtMut};
 
 use calls::check_calls;
 use layout::MAX_PLAN;
-use model::limits::MAX_NUMBERS;
 use model::Player;
-use printing::{REFUSAL_SIZE, Writer};
+use model::limits::MAX_NUMBERS;
+use printing::put_only_refusal;
 use program_text::read_program_text;
 use replay_core::{Left, MAX_REPORT, begin, finish, perform, put_malformed};
 use std::io::{self, Write};
@@ -68,7 +68,7 @@ pub fn print_replay<W: Write>(output: &mut W, figure: &[u8], calls: &[u8]) -> io
     let mut numbers = [0.0f32; MAX_NUMBERS];
     let read = match read_program_text(figure, &mut plan, &mut numbers) {
         Ok(read) => read,
-        Err(refusal) => return print_refusal(output, refusal),
+        Err(refusal) => return print_front(output, |out| put_only_refusal(refusal, out)),
     };
     let plan = &plan[..read.words];
     let numbers = &numbers[..read.numbers];

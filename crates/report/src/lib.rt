@@ -1,4 +1,5 @@
 // What a list of calls shows, put by a writer behind what it has put.
+// It is not printed by `Display`: the head of `printing` says why.
 #![tactic(auto)]
 
 ghost use Rattle.std.specs.Prelude.{◌<◌};

@@ -26,6 +26,7 @@ pub fn output_at(j: usize) -> usize
     MATRIX_FLOATS * j
 }
 
+#[tactic(auto, unfolding(model::specs::Rotations::identity_matrix))]
 fn identity_matrix() -> Matrix4
     ensures { result ≡ identity_matrix }
 {
@@ -57,6 +58,8 @@ fn identity_matrix() -> Matrix4
     }
 }
 
+// A matrix is read and written at a place: calls and C hand in the output as floats, and what is behind the matrices
+// stays. Its rows have names, so chunks of four would be named one by one as well.
 fn row_at(buffer: &[f32], at: usize) -> Row
     requires { at + 4 ≤ length buffer.now }
     ensures { result ≡ row_from (drop at buffer.now) }
@@ -77,7 +80,7 @@ fn matrix_at(buffer: &[f32], at: usize) -> Matrix4
     }
 }
 
-// Four stores: by `copy_from_slice` a frame of 64 joints and 3 nodes took 6.1 µs in place of 4.5.
+// Four stores, since by `copy_from_slice` a frame of 64 joints and 3 nodes takes a third longer.
 fn set_row(buffer: &mut [f32], at: usize, r: Row)
     requires { at + 4 ≤ length buffer.old }
     ensures { buffer.new ≡ stored buffer.old at (row_floats r) }
@@ -99,6 +102,7 @@ fn set_matrix(buffer: &mut [f32], at: usize, m: Matrix4)
 }
 
 // The parent's matrix is read back from the buffer: parents come first. A parent that is no earlier joint is a root's.
+// It is found by its number, as document 01's plan has it.
 fn parent_matrix(plan: &Plan<'_>, buffer: &[f32], j: usize) -> Matrix4
     requires { (j < joint_count plan.now.words.now) × (output_at j ≤ length buffer.now) }
     ensures { result ≡ parent_in plan.now.words.now buffer.now j }
@@ -111,6 +115,7 @@ fn parent_matrix(plan: &Plan<'_>, buffer: &[f32], j: usize) -> Matrix4
 }
 
 // The upper 3×3 transposed.
+#[tactic(auto, unfolding(model::specs::Skeleton::upper_transposed))]
 fn upper_transposed(m: Matrix4) -> Matrix4
     ensures { result ≡ upper_transposed m }
 {
@@ -139,6 +144,7 @@ fn upper_transposed(m: Matrix4) -> Matrix4
 
 // A joint's own matrix, from its pose's. The kind of frame makes no other difference.
 // A match and no closure: all contracts above speak of the kind, so each would have to say which closure is its.
+#[tactic(auto, unfolding(model::specs::Skeleton::own_matrix))]
 fn own_matrix(kind: FrameKind, m: Matrix4) -> Matrix4
     ensures { result ≡ own_matrix kind m }
 {

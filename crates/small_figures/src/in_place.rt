@@ -8,6 +8,7 @@ use model::Player;
 use std::io::Write;
 
 // `update_in_place` on a player that lies in a local.
+// Player and delta are `update`'s own two parameters.
 fn updated(player: Player, delta: f64) -> Player
     ensures { Updated player delta result }
 {

@@ -1,4 +1,5 @@
 // What calls give, put into a buffer by `report` and `printing` and written: the form of `replay`, with the call's name before its answer.
+// Through a buffer, since there is no `Display` of what they put: the head of `printing` says why.
 ghost use Rattle.std.specs.Prelude.{◌≤◌, ◌+◌, length};
 ghost use Rattle.model.specs.Plan.{max_joints, output_at};
 
@@ -12,6 +13,7 @@ use test_io::write_front;
 // A joint's matrix, and two floats behind it.
 const MAX_FLOATS: usize = MATRIX_FLOATS + 2;
 
+// Titles are bytes, for `write_all`: there is nothing to format, and a `&str` would be made into bytes here.
 pub fn text<W: Write>(to: &mut W, s: &[u8]) {
     let _ = to.write_all(s);
 }
@@ -49,6 +51,7 @@ pub fn outcome<W: Write>(to: &mut W, call: &[u8], outcome: Outcome) {
 }
 
 // The matrices of an output's first joints.
+// A count and an output, as `put_joints` takes them.
 pub fn joints<W: Write>(to: &mut W, count: usize, output: &[f32])
     requires { (count ≤ max_joints) × (output_at count ≤ length output.now) }
 {

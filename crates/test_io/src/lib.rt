@@ -12,6 +12,7 @@ use model::FieldForm;
 use std::io::{self, Read, Write};
 
 // How many bytes a header says that follow it: eight hexadecimal digits from `at` on, if these are there.
+// At a place, as `read_field` takes it.
 pub fn size_at(header: &[u8], at: usize) -> Option<usize>
     ensures { result ≡ option_map (λ field. field.value) (field_at FieldForm.Bits header.now at) }
 {
@@ -19,6 +20,7 @@ pub fn size_at(header: &[u8], at: usize) -> Option<usize>
 }
 
 // Fills the front of `text`, `size` bytes, from the input, and answers with it.
+// The size stays beside the slice: the edit read_past_the_slice holds this `requires`.
 pub fn read_front<'a, R: Read>(
     input: &mut R,
     text: &'a mut [u8],

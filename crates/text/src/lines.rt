@@ -84,6 +84,7 @@ pub fn forms(kind: LineKind) -> &'static [FieldForm]
 
 // ---- the cursor: a text and a place in it, held together
 
+// Thin, as document 01 prescribes, over functions of a slice and a place: those beside it, and `fields`.
 #[derive(Clone, Copy)]
 struct Fields<'a> {
     text: &'a [u8],

@@ -1,6 +1,7 @@
 // A reader: one line, or many of a kind, into the slices. A place past a slice's end is not written, so that slices of no
 // length serve to judge a text.
-ghost use Rattle.std.specs.Prelude.{◌≡◌};
+ghost use Rattle.std.specs.Prelude.{[], ◌∷◌, ◌+◌, ◌<◌, ◌^◌, ◌≡◌};
+ghost use Rattle.std.proofs.lemmas.List.Edits.{sets};
 ghost use Rattle.model.specs.declared.Reason.TheVariants as reason;
 ghost use Rattle.text.specs.Steps.{InText};
 
@@ -42,9 +43,20 @@ pub struct Reader<'a> {
     ghost in_text: { InText text.now progress },
 }
 
+// A value at a place, which moves on. A slice that ends before it takes nothing.
+fn put_next<T: Copy>(into: &mut [T], at: &mut usize, value: T)
+    requires { at.old + 1 < 2 ^ 64 }
+    ensures values { into.new ≡ sets into.old at.old (value ∷ []) }
+    ensures place { at.new ≡ at.old + 1 }
+{
+    if *at < into.len() {
+        into[*at] = value;
+    }
+    *at += 1;
+}
+
 impl Reader<'_> {
-    ghost use Rattle.std.specs.Prelude.{[], ◌∷◌, ◌+◌, ◌<◌, ◌≤◌, ◌^◌, ◌≡◌, length, IfOk};
-    ghost use Rattle.std.proofs.lemmas.List.Edits.{sets};
+    ghost use Rattle.std.specs.Prelude.{◌≤◌, length, IfOk};
     ghost use Rattle.model.specs.Text.{max_word, forms, words_in, bits_in, read_line, times, floats_of};
     ghost use Rattle.model.specs.Laws.Text.{Bounded};
     ghost use Rattle.text.specs.Steps.{LineAt, with_word, with_number, LineValues};
@@ -52,7 +64,6 @@ impl Reader<'_> {
 
     // ---- values, each behind those that were put before
 
-    // Beside `put_number`: a generic one would be lent slice, place and value, and give the place back to be stored.
     pub fn put_word(&mut self, value: usize)
         requires { (value ≤ max_word) × RoomFor 1 0 self.old.progress }
         ensures same { SameReader self.old self.new × (self.new.values ≡ self.old.values) }
@@ -60,11 +71,7 @@ impl Reader<'_> {
         ensures plan { self.new.plan.now ≡ sets self.old.plan.now self.old.progress.words (value ∷ []) }
         ensures numbers { self.new.numbers.now ≡ self.old.numbers.now }
     {
-        let at = self.progress.words;
-        if at < self.plan.len() {
-            self.plan[at] = value as u16;
-        }
-        self.progress.words = at + 1;
+        put_next(self.plan, &mut self.progress.words, value as u16);
     }
 
     fn put_number(&mut self, bits: usize)
@@ -74,11 +81,8 @@ impl Reader<'_> {
         ensures plan { self.new.plan.now ≡ self.old.plan.now }
         ensures numbers { self.new.numbers.now ≡ sets self.old.numbers.now self.old.progress.numbers (floats_of (bits ∷ [])) }
     {
-        let at = self.progress.numbers;
-        if at < self.numbers.len() {
-            self.numbers[at] = f32_from_bits(bits as u32);
-        }
-        self.progress.numbers = at + 1;
+        let number = f32_from_bits(bits as u32);
+        put_next(self.numbers, &mut self.progress.numbers, number);
     }
 
     // A decimal goes to the plan, bits go to the numbers.

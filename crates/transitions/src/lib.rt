@@ -26,6 +26,7 @@ fn holds(operator: Operator, p: f32, v: f32) -> bool
     }
 }
 
+// The numbers stand beside the state, since a `State` is its plan's: `uses` reads states without them.
 fn condition_holds(
     state: &State<'_>,
     numbers: &[f32],
@@ -85,6 +86,7 @@ fn started_by(state: &State<'_>, numbers: &[f32], instant: f64, won: Option<usiz
     }
 }
 
+#[tactic(auto, unfolding(model::specs::Controller::is_ended))]
 fn is_ended(instant: f64, start: f64, duration: f32) -> bool
     ensures { result ≡ is_ended instant start duration }
 {

@@ -79,6 +79,7 @@ fn first_open(states: &[bool; MAX_STATES], followed: &[bool; MAX_STATES]) -> Opt
 }
 
 // Every state is followed at most once, so there are as many rounds as states at the most.
+// `followed` stands beside the marks, since those are what the call promises.
 fn marks_of(plan: &Plan<'_>) -> Uses
     ensures { MarksOf plan.now.words.now result }
 {

@@ -16,7 +16,7 @@ pub put_joints-requires : goal.put_joints-requires
 put_joints-requires c =
     let few = few_joints (goal.at.put_joints-requires c).After-word in
     let new = c.new-w.ensures in
-    (few, omega (arith, c.requires.2, new.first, ap length new.held), omega (arith, c.frame.auto.output))
+    (few, omega (arith, new.first, ap length new.held), omega (arith, c.frame.auto.output))
 
 pub returns : goal.returns
 unfolding of_bits
@@ -24,4 +24,4 @@ returns c =
     let few = few_joints (goal.at.returns c).After-word in
     let new = c.new-w.ensures in
     let lines = frame_lines _ _ c.requires.0 _ _ _ _ _ c.requires.1 c.word.ensures.0 (search rules) c.frame.ensures in
-    front_written (rw lines at c.put_joints.ensures.0) new.held new.first (omega (arith, c.put_joints.ensures.1, new.first, c.requires.2)) (search rules)
+    front_written (rw lines at c.put_joints.ensures.0) new.held new.first (omega (arith, c.put_joints.ensures.1, new.first, c.well_formed)) (search rules)

@@ -8,10 +8,6 @@ use Rattle.skeleton.specs.Buffer.{stored}
 use Rattle.skeleton.proofs.Laws.{stored_rows}
 use Rattle.skeleton.proofs.set_joint.Goals as goal
 
-pub set_row-requires-4 : goal.set_row-requires-4
-set_row-requires-4 c =
-    omega (arith, c.set_row-3.auto.buffer, c.set_row-2.auto.buffer, c.set_row.auto.buffer, c.output_at-at.ensures, c.requires.1)
-
 pub returns : goal.returns
 unfolding product
 returns c =

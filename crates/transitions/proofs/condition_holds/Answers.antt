@@ -17,9 +17,6 @@ unfolding condition_of numbers_of
 returns c =
     rw (c.holds.ensures, c.numbers_at-compared.ensures _ c.args.state.now.place, c.condition-condition.ensures) (compares_holds _ _ _)
 
-pub numbers_at-compared-requires : goal.numbers_at-compared-requires
-numbers_at-compared-requires c = let s = c.args.state.now in record { plan = _; passes = laid_passes s.plan.laid; place = s.place; below = c.requires }
-
 pub offset_bounds-parameters-condition : goal.offset_bounds-parameters-condition
 offset_bounds-parameters-condition c = omega (arith, there (goal.at.offset_bounds-parameters-condition c).After-condition-condition)
 

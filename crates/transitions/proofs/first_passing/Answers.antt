@@ -1,14 +1,10 @@
 -- `transitions::first_passing` meets its contract. Invariant: what wins from transition t on wins from the first on. Assumes nothing.
 use mathlib.Core.Path.{sym, ◌∙◌}
-use native.Mathlib.Nat.{sub-zero}
 use native.Mathlib.Omega.{arith}
 use Rattle.model.specs.Controller.{winner}
 use Rattle.layout.proofs.Laws.{transitions_counted}
 use Rattle.transitions.proofs.Laws.{tries, none_left}
 use Rattle.transitions.proofs.first_passing.Goals as goal
-
-pub loop-t-init : goal.loop-t-init
-loop-t-init c = (omega arith, rw sub-zero)
 
 pub loop-t-preserved : goal.loop-t-preserved
 loop-t-preserved c =

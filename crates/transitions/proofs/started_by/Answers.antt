@@ -1,17 +1,11 @@
 -- `transitions::started_by` meets its contract: target and duration are the plan's and the numbers'. Assumes nothing.
 use Rattle.model.specs.Controller.{started_by}
 use Rattle.layout.specs.Layout.{condition_of, numbers_of}
-use Rattle.layout.proofs.Laws.{laid_passes}
 use Rattle.transitions.proofs.started_by.Goals as goal
 
 pub returns-in_default : goal.returns-in_default
 unfolding started_by
 returns-in_default c = rw c.in_default.is
-
-pub numbers_at-taken-requires : goal.numbers_at-taken-requires
-numbers_at-taken-requires c =
-    let s = c.args.state.now in
-    record { plan = _; passes = laid_passes s.plan.laid; place = s.place; below = c.requires _ c.in-Some.is }
 
 pub returns : goal.returns
 unfolding started_by condition_of numbers_of
