@@ -11,8 +11,8 @@ use layout::{Kind, NODE_WORDS, word};
 use model::limits::{MAX_CLIP_NODES, MAX_NODES};
 use model::{Answer, Reason};
 
-// A mark for each node, and one more: where marks are copied, 32 bytes make the whole check twice as fast as 31
-// (docs/DECISIONS.md, 50). Here they are written in place.
+// A mark for each node, and one more, which is never looked at: where marks are copied, 32 bytes make the whole check
+// twice as fast as 31 (docs/DECISIONS.md, 50). Here they are written and looked through in place.
 pub const MARKS: usize = MAX_NODES + 1;
 
 // A node by its number in its state: the word of its kind, and the number that it has if it is a clip.
