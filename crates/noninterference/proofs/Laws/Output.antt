@@ -51,11 +51,18 @@ module _ (plan chosen : List ℕ) (numbers : List Float) (closed : Closed plan c
     pub defined : Defined p e
     pub later : Trace plan numbers e.player es
 
-  loops_told : (r : Result LoopCount Refusal) (v : Verdict) (loops rest : ℕ) → values r ≡ v → IfOk r (λ c. c.loops ≡ loops) → IfOk r (λ c. c.rest ≡ rest)
+  -- of any two numbers
+  loops_told : (v : Verdict) (loops rest : ℕ) {l r : ℕ} → l ≡ unless_refused v loops 0 → r ≡ unless_refused v rest 0
+      → ◌≡◌ {A = List ℕ} (l ∷ r ∷ []) (unless_refused v (loops ∷ rest ∷ []) (0 ∷ 0 ∷ []))
+  unfolding unless_refused
+  loops_told accepted loops rest e f = rw (e, f)
+  loops_told (refused number place none) loops rest e f = rw (e, f)
+
+  counts_are : (r : Result LoopCount Refusal) (v : Verdict) (loops rest : ℕ) → values r ≡ v → IfOk r (λ c. c.loops ≡ loops) → IfOk r (λ c. c.rest ≡ rest)
       → counts_told r ≡ unless_refused v (loops ∷ rest ∷ []) (0 ∷ 0 ∷ [])
   unfolding unless_refused values
-  loops_told (Ok c) v loops rest is e f = rw (← is, e, f)
-  loops_told (Err r) v loops rest is e f = rw (← is)
+  counts_are (Ok c) v loops rest is e f = rw (← is, e, f)
+  counts_are (Err r) v loops rest is e f = rw (← is)
 
   pub first : {p : Player} {e : Event} {es : List Event} → Trace plan numbers p (e ∷ es) → First p e es
   unfolding call_verdict after changed unless_refused output_floats chosen_floats told of_reachable told_in
@@ -70,7 +77,7 @@ module _ (plan chosen : List ℕ) (numbers : List Float) (closed : Closed plan c
   first (ask_loops {p = p} {r = r} s n time c t) =
       let v = loops_verdict plan numbers p s n in
       record {
-        defined = record { answer = c.answer; player = sym (unless_same v p); matrices = λ q. refl; counts = ap (of_reachable plan (Loops s n time)) (loops_told r v _ _ c.answer c.loops c.rest) };
+        defined = record { answer = c.answer; player = sym (unless_same v p); matrices = λ q. refl; counts = ap (of_reachable plan (Loops s n time)) (counts_are r v _ _ c.answer c.loops c.rest) };
         later = t;
       }
 
