@@ -1,6 +1,6 @@
 -- Laws of answers in code with `?`: what is answered where it returns early, and past it. A call's own answer is that of the function that it leaves,
 -- whatever the two hand back where they accept.
-use Rattle.std.specs.Prelude.{◌≡◌, refl, Result, Ok, Err}
+use Rattle.std.specs.Prelude.{◌≡◌, Result, Ok, Err}
 use Rattle.std.specs.Result.{IsErrAnd}
 use Rattle.std.proofs.Common.{◌∙◌, sym}
 use Rattle.model.specs.declared.Refusal.{Refusal}
