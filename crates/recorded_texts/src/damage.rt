@@ -16,7 +16,7 @@ fn hash(bytes: &[u8]) -> u64 {
         .fold(BASIS, |h, b| (h ^ u64::from(*b)).wrapping_mul(PRIME))
 }
 
-// `i,v,` and the refusal, or the hash of other output.
+// `i,v,` and the refusal, or the hash of other output. Told apart by the first byte: `program::answer` gives bytes alone.
 fn print_change<W: Write>(output: &mut W, i: usize, v: u8, printed: &[u8], h: u64) {
     let _ = write!(output, "{i},{v},");
     if printed.starts_with(b"r") {

@@ -17,7 +17,7 @@ use std::io::{self, Write};
 // Room for the longest report and some others, which are printed at once.
 const BUFFER_SIZE: usize = 2 * MAX_REPORT;
 
-// What `put` puts over the front of a buffer.
+// What `put` puts over the front of a buffer. `print_list` prints parts of a longer one, so it does without.
 fn print_front<W: Write, P: FnOnce(&mut [u8; MAX_REPORT]) -> usize>(
     output: &mut W,
     put: P,
@@ -31,7 +31,7 @@ fn print_front<W: Write, P: FnOnce(&mut [u8; MAX_REPORT]) -> usize>(
     output.write_all(&out[..size])
 }
 
-// The start, and the player of it.
+// The start, and the player of it. Not by `print_front`, whose closure hands back how many bytes it put and nothing else.
 fn print_start<W: Write>(output: &mut W, plan: &[u16], numbers: &[f32]) -> io::Result<Player> {
     let mut out = [0u8; MAX_REPORT];
     let begun = begin(plan, numbers, &mut out);
