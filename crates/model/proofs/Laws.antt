@@ -4,6 +4,7 @@ pub mod Table
 pub mod Totals
 pub mod Marks
 pub mod Answers
+pub mod Reasons
 pub mod Exits
 pub mod Tests
 pub mod Roots

@@ -27,6 +27,7 @@ number_of reason.TextLength = 13
 number_of reason.Ending = 14
 number_of reason.ClipNode = 16
 number_of reason.NotLooping = 17
+number_of (reason.Other r) = r.number
 
 -- what the program's answers stand for in document 01, whatever an acceptance hands back. A refusal carries nothing beside its number and place, so
 -- its rest is 0

@@ -2,6 +2,7 @@
 pub mod Numbers
 pub mod Rotations
 pub mod Pose
+pub mod Reasons
 pub mod Answers
 pub mod Plan
 pub mod Check

@@ -2,11 +2,13 @@
 #![tactic(auto)]
 
 ghost use Rattle.std.specs.Prelude.{◌≡◌};
-ghost use Rattle.model.specs.Answers.{number_of};
+ghost use Rattle.model.specs.Answers.{number_of, values, refused};
 
 use crate::limits::{MAX_CLIPS, MAX_INSTANCES, MAX_PARAMETERS, MAX_STATES};
+pub use reasons::Unnamed;
 
 pub mod limits;
+mod reasons;
 
 #[derive(Clone, Copy)]
 pub struct Vector3 {
@@ -122,6 +124,8 @@ pub enum Reason {
     Line,
     Room,
     TextLength,
+    // A number that none of these has.
+    Other(Unnamed),
 }
 
 impl Reason {
@@ -145,6 +149,34 @@ impl Reason {
             Reason::Ending => 14,
             Reason::ClipNode => 16,
             Reason::NotLooping => 17,
+            Reason::Other(unnamed) => unnamed.number,
+        }
+    }
+}
+
+// The one that has a number: `number` tells each from every other.
+impl From<usize> for Reason {
+    ghost from_gives = { λ number r. number_of r ≡ number };
+
+    fn from(number: usize) -> Reason {
+        match number {
+            1 => Reason::PlanEnded,
+            2 => Reason::Count,
+            3 => Reason::Parent,
+            4 => Reason::Node,
+            5 => Reason::Transition,
+            6 => Reason::WordsLeft,
+            7 => Reason::NumberCount,
+            8 => Reason::Parameter,
+            9 => Reason::State,
+            10 => Reason::Output,
+            11 => Reason::Line,
+            12 => Reason::Room,
+            13 => Reason::TextLength,
+            14 => Reason::Ending,
+            16 => Reason::ClipNode,
+            17 => Reason::NotLooping,
+            _ => Reason::Other(Unnamed { number }),
         }
     }
 }
@@ -178,6 +210,14 @@ impl Refusal {
 
 // An acceptance that carries nothing beside, or a refusal.
 pub type Answer = Result<(), Refusal>;
+
+// A refusal of any number.
+#[tactic(auto, unfolding(crate::specs::Answers::values))]
+pub fn refused(number: usize, place: usize) -> Answer
+    ensures { values result ≡ refused number place 0 }
+{
+    Err(Reason::from(number).at(place))
+}
 
 // An answer with the player to go on with.
 #[derive(Clone, Copy)]

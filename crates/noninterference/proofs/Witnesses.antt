@@ -11,7 +11,6 @@ use Rattle.model.specs.declared.Player.{Player}
 use Rattle.model.specs.declared.Outcome.{Outcome}
 use Rattle.model.specs.Numbers.{0f}
 use Rattle.std.specs.Result.{result_and}
-use Rattle.model.specs.declared.Reason.TheVariants as reason
 use Rattle.model.specs.declared.Refusal.{Refusal}
 use Rattle.model.specs.Answers.{accepted, values, unless_refused}
 use Rattle.model.specs.Plan.{joint_count, is_root, Rate, Value, Duration, PoseFloat}
@@ -29,7 +28,7 @@ use Rattle.model.proofs.Unused.{first_only, unused_unseen}
 use Rattle.model.proofs.Laws.Opened.{check_opened}
 use Rattle.model.proofs.Laws.Marks.{unlike}
 use Rattle.noninterference.specs.Alike.{Closed, UnseenAt, AlikeNumbers, AlikeCall, sets}
-use Rattle.noninterference.proofs.Laws.Answers.{Answerable, reason_answerable, check_answerable, frame_answerable, loops_answerable}
+use Rattle.noninterference.proofs.Laws.Answers.{Answerable, require_answerable, check_answerable, frame_answerable, loops_answerable}
 use Rattle.noninterference.specs.Trace.{Event, Trace, end, update, set_speed, set_parameter, frame, ask_loops, Session, calls}
 use Rattle.noninterference.specs.Witnesses.{two_roots, UnusedPlaces}
 
@@ -58,7 +57,7 @@ module _ (plan : List ℕ) (numbers : List Float) where
       let f : Performed plan numbers (with_speed p v) cs = perform (with_speed p v) cs in
       record { events = _; trace = set_speed v (record { player = refl }) f.trace; called = ap (λ (l : List Call). Speed v ∷ l) f.called }
   perform p (Set n v ∷ cs) =
-      let x : Answerable (set_verdict n) = reason_answerable reason.Parameter _ _ in
+      let x : Answerable (set_verdict n) = require_answerable _ _ _ in
       let r : Outcome = record { answer = x.answer; player = unless_refused (set_verdict n) (parameter_set p n v) p } in
       let f : Performed plan numbers r.player cs = perform r.player cs in
       record { events = _; trace = set_parameter {r = r} n v (record { answer = x.is; player = refl }) f.trace; called = ap (λ (l : List Call). Set n v ∷ l) f.called }
