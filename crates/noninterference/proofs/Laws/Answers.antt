@@ -1,9 +1,10 @@
 -- Each verdict of the definitions is one that an answer can give: the rest of a refused answer is 0.
 use Rattle.std.specs.Prelude.{ℕ, zero, suc, ◌≡◌, refl, Bool, true, false, List, length, Float, Result, Ok, Err}
 use Rattle.std.proofs.Common.{ap}
+use Rattle.model.specs.declared.Reason.{Reason}
 use Rattle.model.specs.declared.Refusal.{Refusal}
 use Rattle.model.specs.declared.Player.{Player}
-use Rattle.model.specs.Answers.{Verdict, accepted, refused, values, ◌then◌, each, require}
+use Rattle.model.specs.Answers.{Verdict, accepted, refused, number_of, values, ◌then◌, each, require}
 use Rattle.model.specs.Check.{word_is, check, check_header, check_parent, check_clip, check_node, check_transition, check_state}
 use Rattle.model.specs.Controller.{frame_verdict}
 use Rattle.model.specs.Loops.{loops_verdict}
@@ -22,6 +23,10 @@ unfolding require values
 require_answerable true n p = record { answer = Ok tt; is = refl }
 require_answerable false n p = record { answer = Err (record { reason = reason_of n; place = p }); is = ap (λ k. refused k p 0) (number_of_reason n) }
 
+-- of a reason's number
+pub reason_answerable : (r : Reason) (ok : Bool) (p : ℕ) → Answerable (require ok (number_of r) p)
+reason_answerable r ok p = require_answerable ok (number_of r) p
+
 then_answerable : {a b : Verdict} → Answerable a → Answerable b → Answerable (a then b)
 unfolding ◌then◌
 then_answerable {a = accepted} x y = y
@@ -37,6 +42,9 @@ module _ (plan : List ℕ) where
   word_answerable : (n p : ℕ) (ok : Bool) → Answerable (word_is plan n p ok)
   unfolding word_is
   word_answerable n p ok = then_answerable (require_answerable _ _ _) (require_answerable _ _ _)
+
+  reason_word_answerable : (r : Reason) (p : ℕ) (ok : Bool) → Answerable (word_is plan (number_of r) p ok)
+  reason_word_answerable r p ok = word_answerable (number_of r) p ok
 
   node_answerable : (s i : ℕ) → Answerable (check_node plan s i)
   unfolding check_node
