@@ -92,7 +92,7 @@ fn clip_pose(figure: &Figure<'_>, number: usize, instance: ClipInstance, time: f
     }
     let position = clip_position(clip, instance, time);
     let samples = clip_samples(clip, position);
-    joint_pose(figure, samples, 0)
+    joint_pose(figure.numbers, figure.plan.layout, samples, 0)
 }
 
 // A figure of one joint in a state of one clip. It needs no block, and is not synchronised.
