@@ -54,9 +54,6 @@ module _ (figure : Figure) where
   abbrev passed : check plan (numbers_length plan) ≡ accepted
   passed = figure.plan.laid.passed
 
-  abbrev found : layout ≡ layout_of plan
-  found = figure.plan.laid.found
-
   -- ---- a clip
 
   module _ {c : ℕ} (inside : c < clip_count plan) where
@@ -77,54 +74,55 @@ module _ (figure : Figure) where
       clip_sized = (positive clip.samples some, rw e few, rw e few_before)
 
       -- what `joint_pose` and `sampled_poses` ask of what it gives
-      pub sampled : {p : Position} (x : Float) → p ≡ samples_at clip x → Sampled figure p
+      pub sampled : {p : Position} (x : Float) → p ≡ samples_at clip x → Sampled figure.numbers.now layout p
       unfolding clip_of
-      sampled x found = record { c = c; position = x; clip = inside; some = rw e at clip_sized.0; found = rw e at found }
+      sampled x found =
+          record { plan = plan; c = c; position = x; laid = figure.plan.laid; whole = figure.whole; clip = inside; some = rw e at clip_sized.0; found = rw e at found }
 
-  -- ---- samples of a clip
+-- ---- samples of a clip
 
-  module _ {p : Position} (s : Sampled figure p) where
-    -- of all clips
-    abbrev all : ℕ
-    all = samples_before plan (clip_count plan)
+module _ {numbers : List Float} {layout : Layout} {p : Position} (s : Sampled numbers layout p) where
+  -- of all clips
+  abbrev all : ℕ
+  all = samples_before s.plan (clip_count s.plan)
 
-    first_below : p.first < all
-    unfolding clip_of samples_at samples_before
-    first_below = rw s.found (total_below (sample_count plan) (clip_count plan) s.c _ s.clip (first-in-clip _ s.position s.some))
+  first_below : p.first < all
+  unfolding clip_of samples_at samples_before
+  first_below = rw s.found (total_below (sample_count s.plan) (clip_count s.plan) s.c _ s.clip (first-in-clip _ s.position s.some))
 
-    second_below : p.second < all
-    unfolding clip_of samples_at samples_before
-    second_below = rw s.found (total_below (sample_count plan) (clip_count plan) s.c _ s.clip (second-in-clip _ s.position s.some))
+  second_below : p.second < all
+  unfolding clip_of samples_at samples_before
+  second_below = rw s.found (total_below (sample_count s.plan) (clip_count s.plan) s.c _ s.clip (second-in-clip _ s.position s.some))
 
-    all_few : all ≤ max_clips * max_samples
-    unfolding samples_before
-    all_few = omega (arith, few_clips plan _ passed, total_most (sample_count plan) max_samples (clip_count plan) (few_samples plan _ passed))
+  all_few : all ≤ max_clips * max_samples
+  unfolding samples_before
+  all_few = omega (arith, few_clips s.plan _ s.laid.passed, total_most (sample_count s.plan) max_samples (clip_count s.plan) (few_samples s.plan _ s.laid.passed))
 
-    -- what `pose_at` asks
-    pub samples_small : (layout.joints ≤ max_joints) × (layout.poses_at ≤ max_word) × (p.first < max_clips * max_samples) × (p.second < max_clips * max_samples)
-    unfolding layout_of poses_at
-    samples_small = (
-      rw found (few_joints plan _ passed),
-      rw found (omega (arith, few_clips plan _ passed, few_states plan _ passed, few_transitions_before plan _ passed (state_count plan) (omega arith))),
-      omega (arith, all_few, first_below),
-      omega (arith, all_few, second_below),
-    )
+  -- what `pose_at` asks
+  pub samples_small : (layout.joints ≤ max_joints) × (layout.poses_at ≤ max_word) × (p.first < max_clips * max_samples) × (p.second < max_clips * max_samples)
+  unfolding layout_of poses_at
+  samples_small = (
+    rw s.laid.found (few_joints s.plan _ s.laid.passed),
+    rw s.laid.found (omega (arith, few_clips s.plan _ s.laid.passed, few_states s.plan _ s.laid.passed, few_transitions_before s.plan _ s.laid.passed (state_count s.plan) (omega arith))),
+    omega (arith, all_few, first_below),
+    omega (arith, all_few, second_below),
+  )
 
-    inside : (sample j : ℕ) → sample < all → j < layout.joints → pose_start layout sample j + 8 ≤ length figure.numbers.now
-    unfolding layout_of numbers_length
-    inside sample j h hj =
-        let joints = joint_count plan in
-        let below : j < joints = rw (joints_found plan found) at hj in
-        rw found (omega (arith, below, figure.whole, suc-mul sample joints, mul-le-mul_right joints h))
+  inside : (sample j : ℕ) → sample < all → j < layout.joints → pose_start layout sample j + 8 ≤ length numbers
+  unfolding layout_of numbers_length
+  inside sample j h hj =
+      let joints = joint_count s.plan in
+      let below : j < joints = rw (joints_found s.plan s.laid.found) at hj in
+      rw s.laid.found (omega (arith, below, s.whole, suc-mul sample joints, mul-le-mul_right joints h))
 
-    pub joint_inside : {j : ℕ} → j < layout.joints → (pose_start layout p.first j + 8 ≤ length figure.numbers.now) × (pose_start layout p.second j + 8 ≤ length figure.numbers.now)
-    joint_inside {j} h = (inside p.first j first_below h, inside p.second j second_below h)
+  pub joint_inside : {j : ℕ} → j < layout.joints → (pose_start layout p.first j + 8 ≤ length numbers) × (pose_start layout p.second j + 8 ≤ length numbers)
+  joint_inside {j} h = (inside p.first j first_below h, inside p.second j second_below h)
 
-    pub row_inside : {joints : Joints} {low high i : ℕ} → InBlock layout joints
-        → low ≡ pose_start layout p.first joints.first → high ≡ pose_start layout p.second joints.first → i < joints.count
-        → (low + 8 * i + 8 ≤ length figure.numbers.now) × (high + 8 * i + 8 ≤ length figure.numbers.now)
-    row_inside {joints} {low} {high} {i} block el eh h =
-        rw (el, eh, row_start _ p.first joints.first i, row_start _ p.second joints.first i) (joint_inside (omega (arith, h, block.inside)))
+  pub row_inside : {joints : Joints} {low high i : ℕ} → InBlock layout joints
+      → low ≡ pose_start layout p.first joints.first → high ≡ pose_start layout p.second joints.first → i < joints.count
+      → (low + 8 * i + 8 ≤ length numbers) × (high + 8 * i + 8 ≤ length numbers)
+  row_inside {joints} {low} {high} {i} block el eh h =
+      rw (el, eh, row_start _ p.first joints.first i, row_start _ p.second joints.first i) (joint_inside (omega (arith, h, block.inside)))
 
 -- ---- what an instance of a clip shows of a joint
 

@@ -1,13 +1,13 @@
 -- Samples counted over all clips, and the pose of a joint between two of them. Definitions only.
-use Rattle.std.specs.Prelude.{ℕ, ◌+◌, ◌*◌, ◌≤◌, ◌<◌, ◌≡◌, List, Float}
+use Rattle.std.specs.Prelude.{ℕ, ◌+◌, ◌*◌, ◌≤◌, ◌<◌, ◌≡◌, List, length, Float}
 use Rattle.model.specs.declared.Pose.{Pose}
 use Rattle.model.specs.declared.ClipInstance.{ClipInstance}
 use Rattle.model.specs.Numbers.{◌*₃₂◌}
 use Rattle.model.specs.Pose.{lerp}
-use Rattle.model.specs.Plan.{max_clips, max_samples, clip_count, sample_count, is_stopping, samples_before, number, Rate}
+use Rattle.model.specs.Plan.{max_clips, max_samples, clip_count, sample_count, is_stopping, samples_before, number, Rate, numbers_length}
 use Rattle.model.specs.Clips.{local_time, first_index, second_index, factor, sampled_position}
 use Rattle.layout.specs.declared.Layout.{Layout}
-use Rattle.layout.specs.declared.passed.Figure.{Figure}
+use Rattle.layout.specs.Layout.{Laid}
 use Rattle.animation.specs.declared.Position.{Position}
 use Rattle.animation.specs.Sampling.{pose_from}
 use Rattle.blend_tree.specs.declared.sampling.Clip.{Clip}
@@ -35,10 +35,13 @@ pose_start layout sample j = layout.poses_at + (sample * layout.joints + j) * 8
 unfoldable pub pose_between : List Float → Layout → Position → ℕ → Pose
 pose_between numbers layout p j = lerp (pose_from numbers (pose_start layout p.first j)) (pose_from numbers (pose_start layout p.second j)) p.factor
 
--- these are samples of a clip of the figure that has some
-pub record Sampled (figure : Figure) (samples : Position) : Type 0 where
+-- these are samples of a clip that has some, of a plan that passed with these numbers and has this layout
+pub record Sampled (numbers : List Float) (layout : Layout) (samples : Position) : Type 0 where
+  pub plan : List ℕ
   pub c : ℕ
   pub position : Float
-  pub clip : c < clip_count figure.plan.words.now
-  pub some : 0 < sample_count figure.plan.words.now c
-  pub found : samples ≡ samples_at (clip_of figure.plan.words.now figure.numbers.now c) position
+  pub laid : Laid plan layout
+  pub whole : length numbers ≡ numbers_length plan
+  pub clip : c < clip_count plan
+  pub some : 0 < sample_count plan c
+  pub found : samples ≡ samples_at (clip_of plan numbers c) position

@@ -36,7 +36,8 @@ fn identity_poses(count: usize, block: &mut Block)
 // A clip, between two of its samples, whose places are worked out once: with `joint_pose` in each lane some sizes are
 // slower by a sixth.
 fn sampled_poses(figure: &Figure<'_>, samples: Position, joints: Joints, block: &mut Block)
-    requires { Sampled figure.now samples × InBlock figure.now.plan.layout joints }
+    requires { Sampled figure.now.numbers.now figure.now.plan.layout samples
+        × InBlock figure.now.plan.layout joints }
     ensures { FilledFor joints block.new
         (pose_between figure.now.numbers.now figure.now.plan.layout samples) }
 {

@@ -5,7 +5,7 @@ ghost use Rattle.blend_tree.specs.Sampling.{clip_of, Sized, position_at, samples
 
 use animation::{Position, local_time, pose_between, position_in, sampled_position};
 use layout::passed::Figure;
-use layout::{pose_at, rate, samples_before};
+use layout::{Layout, pose_at, rate, samples_before};
 use model::{ClipInstance, Pose};
 
 // A clip of a plan: how many samples it has, how many the clips before it have, whether it stops, and its rate.
@@ -55,13 +55,12 @@ pub fn clip_samples(clip: Clip, position: f32) -> Position
 }
 
 // A joint's pose between two such samples.
-pub fn joint_pose(figure: &Figure<'_>, samples: Position, joint: usize) -> Pose
-    requires { Sampled figure.now samples × (joint < figure.now.plan.layout.joints) }
-    ensures { result ≡ pose_between figure.now.numbers.now figure.now.plan.layout samples joint }
+pub fn joint_pose(numbers: &[f32], layout: Layout, samples: Position, joint: usize) -> Pose
+    requires { Sampled numbers.now layout samples × (joint < layout.joints) }
+    ensures { result ≡ pose_between numbers.now layout samples joint }
 {
-    let layout = figure.plan.layout;
     pose_between(
-        figure.numbers,
+        numbers,
         pose_at(layout, samples.first, joint),
         pose_at(layout, samples.second, joint),
         samples.factor,

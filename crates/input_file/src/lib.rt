@@ -1,7 +1,7 @@
 // Reading the file that an argument names to its end.
 #![tactic(auto)]
 
-ghost use Rattle.std.specs.Prelude.{◌≡◌, ◌≤◌, length, IfSome, IfOk, MatchResult};
+ghost use Rattle.std.specs.Prelude.{◌≡◌, ◌≤◌, length, take, IfSome, IfOk, MatchResult};
 ghost use Rattle.std.specs.IoError.{raw_os_error};
 
 use input::read_input;
@@ -23,7 +23,10 @@ const INVALID_ARGUMENT: i32 = 22;
 const NAME_TOO_LONG: i32 = 36;
 
 // The words for an error: what comes before its number, if it has one, and before the zeros that fill the text up.
-fn words(text: &[u8]) -> &[u8] {
+fn words(text: &[u8]) -> &[u8]
+    ensures within { length result.now ≤ length text.now }
+    ensures front { result.now ≡ take (length result.now) text.now }
+{
     for i in 0..text.len() {
         if text[i] == 0 || text[i..].starts_with(b" (os error ") {
             return &text[..i];

@@ -66,7 +66,7 @@ target_below n t start duration target e h = ltb-true _ _ (rw e at h)
 
 -- a state on its way to another that was synchronised
 pub blended_to : {kind : FrameKind} {from : Source} {target : ℕ} {factor : Float} {slots : List ℕ} {before after old new : List Float} {there : StateAt}
-    → TargetSynchronized from.state target from.parameters.now slots before after there
+    → TargetSynchronized from.state.figure from.state.time target from.parameters.now slots before after there
     → new ≡ skeleton_of kind from.state.figure.plan.words.now (λ j. lerp (state_pose_at from j) (state_pose there.figure.plan.words.now there.figure.numbers.now from.parameters.now there.time there.here.state after j) factor) old
     → Blended kind from target factor before after old new
 blended_to t e =

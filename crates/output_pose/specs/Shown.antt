@@ -10,6 +10,7 @@ use Rattle.model.specs.Pose.{lerp}
 use Rattle.model.specs.Tree.{synchronize, state_pose}
 use Rattle.model.specs.Controller.{instances_in, pose_in}
 use Rattle.model.specs.Skeleton.{joint_matrices, written}
+use Rattle.layout.specs.declared.passed.Figure.{Figure}
 use Rattle.blend_tree.specs.declared.StateAt.{StateAt}
 use Rattle.blend_tree.specs.declared.Source.{Source}
 use Rattle.blend_tree.specs.Slots.{Slots}
@@ -36,13 +37,13 @@ pub record StateShown (kind : FrameKind) (plan : List ℕ) (numbers : List Float
   pub instances : after ≡ synchronize plan numbers parameters time state before
   pub output : new ≡ skeleton_of kind plan (state_pose plan numbers parameters time state after) old
 
--- r is the figure's state `target` at the time of `state`, with its slots, synchronised on top of `before`
-pub record TargetSynchronized (state : StateAt) (target : ℕ) (parameters : List Float) (slots : List ℕ) (before after : List Float) (r : StateAt) : Type 0 where
-  pub figure : r.figure ≡ state.figure
+-- r is the figure's state `target` at a time, with its slots, synchronised on top of `before`
+pub record TargetSynchronized (f : Figure) (t : Float) (target : ℕ) (parameters : List Float) (slots : List ℕ) (before after : List Float) (r : StateAt) : Type 0 where
+  pub figure : r.figure ≡ f
   pub number : r.here.state ≡ target
-  pub time : r.time ≡ state.time
+  pub time : r.time ≡ t
   pub filled : Slots r.figure.plan.words.now r.here.state slots
-  pub instances : after ≡ synchronize state.figure.plan.words.now state.figure.numbers.now parameters state.time target before
+  pub instances : after ≡ synchronize f.plan.words.now f.numbers.now parameters t target before
 
 -- a state on its way to another by a factor: the other is synchronised on top of `before`, and the output shows both, blended
 pub record Blended (kind : FrameKind) (from : Source) (target : ℕ) (factor : Float) (before after old new : List Float) : Type 0 where

@@ -92,7 +92,7 @@ fn clip_pose(figure: &Figure<'_>, number: usize, instance: ClipInstance, time: f
     }
     let position = clip_position(clip, instance, time);
     let samples = clip_samples(clip, position);
-    joint_pose(figure, samples, 0)
+    joint_pose(figure.numbers, figure.plan.layout, samples, 0)
 }
 
 // A figure of one joint in a state of one clip. It needs no block, and is not synchronised.
@@ -123,23 +123,24 @@ fn transition_factor(instant: f64, start: f64, duration: f32) -> f32
     narrow((instant - start) / widen(duration))
 }
 
-// The state that a transition leads to, at the same time. It is synchronised too.
+// The state that a transition leads to, at the time of the one that it leaves. It is synchronised too.
 pub fn synchronize_target<'a>(
-    state: &StateAt<'a>,
+    figure: &Figure<'a>,
+    time: f32,
     target: usize,
     parameters: &[f32; MAX_PARAMETERS],
     slots: &mut [u8; SLOTS],
     instances: &mut [f32; MAX_INSTANCES],
 ) -> StateAt<'a>
-    requires { target < state_count state.now.figure.plan.words.now }
-    ensures { TargetSynchronized state.now target parameters.now slots.new
+    requires { target < state_count figure.now.plan.words.now }
+    ensures { TargetSynchronized figure.now time target parameters.now slots.new
         instances.old instances.new result }
 {
-    let here = state.figure.plan.state_layout(target);
+    let here = figure.plan.state_layout(target);
     let there = StateAt {
-        figure: state.figure,
+        figure: *figure,
         here,
-        time: state.time,
+        time,
     };
     there.synchronize(parameters, slots, instances);
     there
@@ -161,7 +162,14 @@ fn show_transition(
 {
     let parameters = source.parameters;
     let mut slots = [0u8; SLOTS];
-    let state = synchronize_target(&source.state, target, parameters, &mut slots, instances);
+    let state = synchronize_target(
+        &source.state.figure,
+        source.state.time,
+        target,
+        parameters,
+        &mut slots,
+        instances,
+    );
     let target = Target {
         source: Source {
             state,

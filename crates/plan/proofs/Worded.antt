@@ -18,7 +18,7 @@ use Rattle.model.proofs.Laws.State.{state_there, few_transitions}
 use Rattle.model.proofs.Laws.Totals.{total_most}
 use Rattle.model.proofs.Laws.Header as header
 use Rattle.layout.specs.declared.Layout.{Layout}
-use Rattle.layout.specs.Layout.{layout_of}
+use Rattle.layout.specs.Layout.{layout_of, Passes}
 use Rattle.plan.specs.Checked.{PlanChecked}
 use Rattle.plan.specs.Parts.{check_words, Worded, LengthsChecked}
 
@@ -44,6 +44,11 @@ module _ (plan : List ℕ) (ok : Worded plan) where
 
     pub product_small : (s : ℕ) → s ≤ l.clips * max_word → s * l.joints ≤ max_clips * max_word * max_joints
     product_small s h = let k : s ≤ max_clips * max_word = omega (arith, layout_small) in mul-le-mul k layout_small.0
+
+-- the words of a plan that passes
+pub words_pass : {plan : List ℕ} → Passes plan → Worded plan
+unfolding check check_words
+words_pass ok = then_left _ _ (then_left _ _ ok.passed)
 
 -- the count of numbers, from a layout
 pub numbers_counted : (plan : List ℕ) (l : Layout) (s : ℕ) → l ≡ layout_of plan → s ≡ samples_before plan l.clips → l.poses_at + s * l.joints * 8 ≡ numbers_length plan

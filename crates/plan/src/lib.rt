@@ -6,7 +6,7 @@ ghost use Rattle.model.specs.Answers.{values};
 ghost use Rattle.model.specs.Check.{check};
 ghost use Rattle.plan.specs.Checked.{PlanChecked};
 ghost use Rattle.model.specs.Plan.{state_count, transitions_before, plan_end};
-ghost use Rattle.layout.specs.Layout.{layout_of};
+ghost use Rattle.layout.specs.Layout.{layout_of, Passes};
 ghost use Rattle.plan.specs.Parts.{WordsChecked, Worded, LengthsChecked};
 
 use crate::states::{States, check_states};
@@ -109,4 +109,18 @@ pub fn figure<'a>(plan: &'a [u16], numbers: &'a [f32]) -> Result<Figure<'a>, Ref
         },
         numbers,
     })
+}
+
+// The plan of words of which it is known that they pass, with whatever count of numbers.
+pub fn passed_plan<'a>(words: &'a [u16]) -> Plan<'a>
+    requires { Passes words.now }
+    ensures { result.words ≡ words.entry }
+{
+    let Ok(states) = check_words(words) else {
+        unreachable!();
+    };
+    Plan {
+        words,
+        layout: laid_out(words, states.transitions),
+    }
 }

@@ -10,16 +10,16 @@ use Rattle.blend_tree.proofs.poses.sampled_poses.Goals as goal
 use Rattle.blend_tree.proofs.poses.sampled_poses.Goals.{In-loop-i}
 
 pub pose_at-low-requires : goal.pose_at-low-requires
-pose_at-low-requires c = omega (arith, samples_small _ c.requires.0, c.requires.1.inside)
+pose_at-low-requires c = omega (arith, samples_small c.requires.0, c.requires.1.inside)
 
 pub pose_at-high-requires : goal.pose_at-high-requires
-pose_at-high-requires c = omega (arith, samples_small _ c.requires.0, c.requires.1.inside)
+pose_at-high-requires c = omega (arith, samples_small c.requires.0, c.requires.1.inside)
 
 -- in a turn both poses are there
 inside : (c : In-loop-i)
     → let n = length c.args.figure.now.numbers.now in
     (c.pose_at-low.result + 8 * c.loop-i.i + 8 ≤ n) × (c.pose_at-high.result + 8 * c.loop-i.i + 8 ≤ n)
-inside c = row_inside _ c.requires.0 c.requires.1 c.pose_at-low.ensures c.pose_at-high.ensures c.loop-i-test.true
+inside c = row_inside c.requires.0 c.requires.1 c.pose_at-low.ensures c.pose_at-high.ensures c.loop-i-test.true
 
 pub overflow_add-low : goal.overflow_add-low
 overflow_add-low c = omega (arith, inside (goal.at.overflow_add-low c).In-loop-i)
