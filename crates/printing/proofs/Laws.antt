@@ -117,7 +117,7 @@ pub float_written : {p q : Writer} (x : Float) (b : ℕ) → b ≡ to_bits binar
 unfolding bits_fields bits_text
 float_written x b e w = rw (append-nil, ← e) w
 
-bits_append : (vs ws : List ℕ) → bits_fields (vs ++ ws) ≡ bits_fields vs ++ bits_fields ws
+pub bits_append : (vs ws : List ℕ) → bits_fields (vs ++ ws) ≡ bits_fields vs ++ bits_fields ws
 unfolding bits_fields
 bits_append [] ws = refl
 bits_append (v ∷ vs) ws =
