@@ -5,7 +5,7 @@ use native.Mathlib.Omega.{arith}
 use mathlib.Core.Path.{◌≡◌, refl, sym, ◌∙◌}
 use mathlib.Core.Logic.{⊎_elim, inl, inr}
 use mathlib.Core.Bool.{Bool, true, false, cond, not, ◌||◌}
-use mathlib.Core.List.{List}
+use mathlib.Core.List.{List, [], ◌∷◌}
 use Rattle.std.specs.Prelude.{Option, Some, None}
 use Rattle.std.specs.Bool.{then_some}
 use lib.Dec.{leb, eqb}
@@ -20,6 +20,24 @@ use Rattle.fields.specs.CountedTo.{CountedTo}
 use Rattle.fields.specs.Found.{field_at, found}
 use Rattle.fields.specs.Wide.{hexadecimal_at, wide_bits_in, wide_bits_at}
 use Rattle.fields.specs.declared.Field.{Field}
+
+-- ---- a digit
+
+-- the digits of so many bytes, from one on
+abbrev pub digits_from : ℕ → ℕ → List ℕ
+digits_from zero first = []
+digits_from (suc n) first = digit first ∷ digits_from n (suc first)
+
+digit_there : (n first i : ℕ) → i < n → get_or (digits_from n first) i 0 ≡ digit (first + i)
+digit_there zero first i h = absurd (omega arith)
+digit_there (suc n) first zero h = let same : first + 0 ≡ first = omega arith in rw same
+digit_there (suc n) first (suc i) h = let next : first + suc i ≡ suc first + i = omega arith in rw next (digit_there n (suc first) i (omega arith))
+
+pub digit_read : (i b v : ℕ) → v ≡ get_or (digits_from 256 0) i 0 → i ≡ b → b < 256 → v ≡ digit b
+digit_read i b v read at h =
+    let there : get_or (digits_from 256 0) b 0 ≡ digit (0 + b) = digit_there 256 0 b h in
+    let same : 0 + b ≡ b = omega arith in
+    rw (read, at) (rw same at there)
 
 -- ---- a run
 
@@ -78,10 +96,18 @@ module _ (base most : ℕ) (text : List ℕ) (at i value : ℕ) (h : at ≤ i) (
   pub counts : (d : ℕ) → value ≤ most → d ≡ digit (get_or text i 0) → CountedTo base most (i + 1 - at) (drop at text) (value * base + d)
   counts d l e = inl (numeral_more base text at i value d h (counted base most (drop at text) (i - at) value c l) e)
 
-  pub stays : 1 ≤ base → most < value → CountedTo base most (i + 1 - at) (drop at text) value
-  stays b l =
+  one_more : 1 ≤ base → most < value → CountedTo base most (i + 1 - at) (drop at text) value
+  one_more b l =
       let e : i + 1 - at - 1 ≡ i - at = omega arith in
       inr (l, rw e (above base most (drop at text) (i - at) value c b l))
+
+-- however many digits come
+pub stays : (base most : ℕ) (text : List ℕ) (at i value : ℕ) → at ≤ i → CountedTo base most (i - at) (drop at text) value → 1 ≤ base → most < value → (n : ℕ)
+    → CountedTo base most (i + n - at) (drop at text) value
+stays base most text at i value h c b l zero = let same : i + 0 ≡ i = omega arith in rw same c
+stays base most text at i value h c b l (suc n) =
+    let next : i + suc n ≡ i + 1 + n = omega arith in
+    rw next (stays base most text at (i + 1) value (omega arith) (one_more base most text at i value h c b l) b l n)
 
 -- ---- the field at a place, where `f` is the run there
 

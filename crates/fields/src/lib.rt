@@ -51,26 +51,44 @@ pub fn name_at(text: &[u8], at: usize, name: &[u8]) -> usize
     }
 }
 
-// What a letter's byte is above its value.
-const LETTERS: u8 = b'a' - 10;
+// The value of each byte as a digit. No `Option`: the definition `digit` answers 16 where there is none, so that one test
+// ends a run in either base.
+// A table and no tests: digits that come in no order mispredict branches, and tests that become none are all done for each
+// digit, so that reading digits whose branches would be foreseen takes a third longer.
+const DIGITS: [u8; 256] = [
+    16, 16, 16, 16, 16, 16, 16, 16, 16, 16, 16, 16, 16, 16, 16, 16, 16, 16, 16, 16, 16, 16, 16, 16,
+    16, 16, 16, 16, 16, 16, 16, 16, 16, 16, 16, 16, 16, 16, 16, 16, 16, 16, 16, 16, 16, 16, 16, 16,
+    0, 1, 2, 3, 4, 5, 6, 7, 8, 9, 16, 16, 16, 16, 16, 16, 16, 16, 16, 16, 16, 16, 16, 16, 16, 16,
+    16, 16, 16, 16, 16, 16, 16, 16, 16, 16, 16, 16, 16, 16, 16, 16, 16, 16, 16, 16, 16, 16, 16, 10,
+    11, 12, 13, 14, 15, 16, 16, 16, 16, 16, 16, 16, 16, 16, 16, 16, 16, 16, 16, 16, 16, 16, 16, 16,
+    16, 16, 16, 16, 16, 16, 16, 16, 16, 16, 16, 16, 16, 16, 16, 16, 16, 16, 16, 16, 16, 16, 16, 16,
+    16, 16, 16, 16, 16, 16, 16, 16, 16, 16, 16, 16, 16, 16, 16, 16, 16, 16, 16, 16, 16, 16, 16, 16,
+    16, 16, 16, 16, 16, 16, 16, 16, 16, 16, 16, 16, 16, 16, 16, 16, 16, 16, 16, 16, 16, 16, 16, 16,
+    16, 16, 16, 16, 16, 16, 16, 16, 16, 16, 16, 16, 16, 16, 16, 16, 16, 16, 16, 16, 16, 16, 16, 16,
+    16, 16, 16, 16, 16, 16, 16, 16, 16, 16, 16, 16, 16, 16, 16, 16, 16, 16, 16, 16, 16, 16, 16, 16,
+    16, 16, 16, 16, 16, 16, 16, 16, 16, 16, 16, 16, 16, 16,
+];
 
-// Tests and no `match`: these become no branches, which digits that come in no order mispredict, and reading takes half the time.
-// No `Option`: the definition `digit` answers 16 where there is none, so that one test ends a run in either base.
-#[tactic(auto, unfolding(model::specs::Text::digit, model::specs::Check::within))]
 fn digit(b: u8) -> usize
     ensures { result ≡ digit b }
 {
-    if b.is_ascii_digit() {
-        usize::from(b - b'0')
-    } else if matches!(b, b'a'..=b'f') {
-        usize::from(b - LETTERS)
-    } else {
-        HEXADECIMAL
+    usize::from(DIGITS[usize::from(b)])
+}
+
+// The place behind the run that begins at `at`.
+fn run_end(text: &[u8], at: usize, base: usize) -> usize
+    ensures { result ≡ at + digit_count base (drop at text.now) }
+{
+    for end in at..text.len() {
+        if digit(text[end]) >= base {
+            return end;
+        }
     }
+    at.max(text.len())
 }
 
 // The run that begins at `at`. Once its number is above `most` it is not counted further, so that a long run cannot
-// overflow.
+// overflow: `run_end` goes on, and the loop here need not choose a number for each digit.
 // Not by `from_str_radix`, here and below: it takes a sign and upper case, and document 01's fields have neither. The
 // base is a number, as in `digit_count`: an enum of two would be turned into it.
 fn run_at(text: &[u8], at: usize, base: usize, most: usize) -> Field
@@ -84,9 +102,11 @@ fn run_at(text: &[u8], at: usize, base: usize, most: usize) -> Field
         if next >= base {
             return Field { value, end };
         }
-        if value <= most {
-            value = value * base + next;
+        if value > most {
+            let end = run_end(text, end, base);
+            return Field { value, end };
         }
+        value = value * base + next;
     }
     Field {
         value,
