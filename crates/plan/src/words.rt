@@ -30,7 +30,10 @@ pub fn word_is(plan: &[u16], reason: Reason, at: usize, ok: bool) -> Answer
     if plan.len() <= at {
         return Err(Reason::PlanEnded.at(plan.len()));
     }
-    if ok { Ok(()) } else { Err(reason.at(at)) }
+    if !ok {
+        return Err(reason.at(at));
+    }
+    Ok(())
 }
 
 fn within(low: usize, x: usize, high: usize) -> bool
