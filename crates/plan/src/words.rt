@@ -87,6 +87,8 @@ fn check_parent(plan: &[u16], joints: usize, j: usize) -> Answer
     word_is(plan, Reason::Parent, at, good)
 }
 
+// Not inlined: within `check` the same loop took up to twice the time, by where it came to lie.
+#[inline(never)]
 pub fn check_parents(plan: &[u16], joints: usize) -> Answer
     requires { (joints ≡ joint_count plan.now) × (joints ≤ max_word) }
     ensures { values result ≡ each joints (check_parent plan.now) }
