@@ -69,14 +69,10 @@ fn synchronize_states(
 fn fresh(figure: &Figure<'_>) -> Player
     ensures { result ≡ fresh figure.now.plan.words.now figure.now.numbers.now }
 {
-    let blank = blank();
-    let mut instances = blank.instances;
-    synchronize_states(figure, &blank.parameters, &mut instances);
-    Player {
-        state: figure.plan.layout.initial,
-        instances,
-        ..blank
-    }
+    let mut player = blank();
+    player.state = figure.plan.layout.initial;
+    synchronize_states(figure, &player.parameters, &mut player.instances);
+    player
 }
 
 pub fn start(plan: &[u16], numbers: &[f32]) -> Outcome

@@ -97,5 +97,7 @@ pub fn loops(
     if !has_states(figure.plan.layout.states, player.state, player.transition) {
         return Err(Reason::State.at(0));
     }
-    count_at(&figure, &player.instances, state, node, time)
+    // A variable, so that a host's player is copied here and not before the check.
+    let instances = player.instances;
+    count_at(&figure, &instances, state, node, time)
 }

@@ -88,6 +88,8 @@ fn check_lengths(
 }
 
 // Refusals 1 to 7 and 14 for a plan with so many numbers.
+// Not inlined: so `figure` is, whose figure then needs no memory, and every call shares this one check.
+#[inline(never)]
 pub fn check(plan: &[u16], numbers: usize) -> Result<Layout, Refusal>
     ensures { PlanChecked plan.now numbers result }
 {

@@ -7,7 +7,7 @@ use Rattle.controller.proofs.fresh.Goals as goal
 
 pub synchronize_states-requires : goal.synchronize_states-requires
 unfolding blank
-synchronize_states-requires c = ap (λ (p : Player). p.parameters) c.blank-blank.ensures
+synchronize_states-requires c = ap (λ (p : Player). p.parameters) c.blank-player.ensures
 
 pub returns : goal.returns
-returns c = fresh_made _ _ _ c.args.figure.now.plan.laid.found _ c.blank-blank.ensures _ c.synchronize_states.ensures
+returns c = fresh_made _ _ _ c.args.figure.now.plan.laid.found _ c.blank-player.ensures _ c.synchronize_states.ensures

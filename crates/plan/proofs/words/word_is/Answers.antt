@@ -8,10 +8,10 @@ pub returns-then-plan-at : goal.returns-then-plan-at
 unfolding values word_is ◌then◌ require
 returns-then-plan-at c = rw (c.at.ensures, le-ltb _ _ c.if-plan-at.true)
 
-pub returns-then-ok : goal.returns-then-ok
+pub returns-then-not-ok : goal.returns-then-not-ok
 unfolding values word_is ◌then◌ require
-returns-then-ok c = rw (lt-ltb _ _ c.if-plan-at.false, c.if-ok.true)
+returns-then-not-ok c = rw (c.at-then-not-ok.ensures, lt-ltb _ _ c.if-plan-at.false, c.if-not-ok.true)
 
-pub returns-else-ok : goal.returns-else-ok
+pub returns : goal.returns
 unfolding values word_is ◌then◌ require
-returns-else-ok c = rw (c.at-else-ok.ensures, lt-ltb _ _ c.if-plan-at.false, c.if-ok.false)
+returns c = rw (lt-ltb _ _ c.if-plan-at.false, c.if-not-ok.false)
