@@ -9,7 +9,7 @@ ghost use Rattle.model.specs.Promises.{UsesFound};
 ghost use Rattle.uses.specs.Marking.{AllMarked, none, first_open, MarksOf};
 
 use layout::Kind;
-use layout::passed::{Figure, Plan, State};
+use layout::passed::{Plan, State};
 use model::limits::{MAX_CLIPS, MAX_PARAMETERS, MAX_STATES};
 use model::{Refusal, Uses};
 use plan::figure;
@@ -100,19 +100,13 @@ fn marks_of(plan: &Plan<'_>) -> Uses
     marks
 }
 
-// What `uses` answers of a figure, which passed.
-// Not inlined: so the marks are copied whole. In one function with a refusal they are cut where its fields would lie.
-#[inline(never)]
-fn uses_of(figure: &Figure<'_>) -> Result<Uses, Refusal>
-    ensures { UsesFound figure.now.plan.words.now figure.now.numbers.now result }
-{
-    Ok(marks_of(&figure.plan))
-}
-
 // The marks of a figure, or why a start refuses it.
+// Not inlined: in one function with what a host is told, the marks are copied once more, in pieces that wait for one
+// another.
+#[inline(never)]
 pub fn uses(plan: &[u16], numbers: &[f32]) -> Result<Uses, Refusal>
     ensures { UsesFound plan.now numbers.now result }
 {
     let figure = figure(plan, numbers)?;
-    uses_of(&figure)
+    Ok(marks_of(&figure.plan))
 }

@@ -1,5 +1,6 @@
 -- `uses::uses` meets its contract: a refusal of the check is handed on, else the marks are the figure's. Assumes nothing.
 use Rattle.std.proofs.Common.{rules}
+use Rattle.model.specs.Answers.{values}
 use Rattle.model.specs.Run.{start_verdict}
 use Rattle.model.proofs.Laws.Exits.{leaves}
 use Rattle.uses.proofs.uses.Goals as goal
@@ -9,4 +10,8 @@ unfolding start_verdict
 returns-in_err-figure c = record { answer = leaves _ _ _ _ c.from_residual.ensures.1 c.in_err-figure.ensures.answer; states = search rules; parameters = search rules; clips = search rules }
 
 pub returns : goal.returns
-returns c = rw (c.in_ok-figure.ensures.words, c.in_ok-figure.ensures.numbers) at c.uses_of.ensures
+unfolding start_verdict values
+returns c =
+    let told = c.in_ok-figure.ensures in
+    let marks = rw told.words at c.marks_of.ensures in
+    record { answer = told.answer; states = marks.states; parameters = marks.parameters; clips = marks.clips }
