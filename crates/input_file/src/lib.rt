@@ -3,6 +3,7 @@
 
 ghost use Rattle.std.specs.Prelude.{◌≡◌, ◌≤◌, length, take, IfSome, IfOk, MatchResult};
 ghost use Rattle.std.specs.IoError.{raw_os_error};
+ghost use Rattle.input_file.specs.Words.{words_size};
 
 use input::read_input;
 use std::env::FillError;
@@ -24,8 +25,7 @@ const NAME_TOO_LONG: i32 = 36;
 
 // The words for an error: what comes before its number, if it has one, and before the zeros that fill the text up.
 fn words(text: &[u8]) -> &[u8]
-    ensures within { length result.now ≤ length text.now }
-    ensures front { result.now ≡ take (length result.now) text.now }
+    ensures { result.now ≡ take (words_size text.now) text.now }
 {
     for i in 0..text.len() {
         if text[i] == 0 || text[i..].starts_with(b" (os error ") {

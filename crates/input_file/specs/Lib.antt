@@ -1,0 +1,2 @@
+-- What is said on standard error of an error
+pub mod Words
