@@ -5,6 +5,7 @@ pub mod Totals
 pub mod Marks
 pub mod Answers
 pub mod Reasons
+pub mod Named
 pub mod Exits
 pub mod Tests
 pub mod Roots

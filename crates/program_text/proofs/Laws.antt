@@ -15,15 +15,30 @@ use Rattle.model.specs.declared.Lengths.{Lengths}
 use Rattle.std.specs.Prelude.{Result, Ok, Err}
 use Rattle.model.specs.Plan.{max_plan}
 use Rattle.model.specs.Text.{Reading, bad, got, read_figure, floats_of, overwritten, read_words, read_floats}
-use Rattle.model.specs.Text.{accepted, refused, text_values, text_verdict, when_accepted}
+use Rattle.model.specs.Text.{TextVerdict, accepted, refused, text_values, text_verdict, when_accepted}
 use Rattle.model.specs.Program.{refused_line, printed_from, max_text, max_numbers, printed_by}
 use Rattle.model.specs.Promises.{TextRead}
+use Rattle.model.proofs.Laws.Named.{TextNamed, text_accepted_named, text_refused_named}
 use Rattle.model.proofs.Laws.Reading.{figure_fits}
 use Rattle.printing.proofs.Laws.{front_length, front_is}
 use Rattle.round_trip.proofs.Theorems.{words_most}
 use Rattle.program_text.specs.ProgramText.{reading_verdict, program_verdict, ProgramTextRead}
 
 -- ---- reading
+
+-- each refusal has a number that has a reason of its own
+pub program_named : (s : List ℕ) → TextNamed (program_verdict s)
+unfolding program_verdict
+program_named s = go (ltb max_text (length s)) (reading_named (read_figure s))
+  where
+    reading_named : (x : Reading) → TextNamed (reading_verdict x)
+    unfolding reading_verdict
+    reading_named (bad n) = text_refused_named _ _ refl
+    reading_named (got ws bs rest n) = text_accepted_named _ _
+
+    go : (long : Bool) → {v : TextVerdict} → TextNamed v → TextNamed (cond long (refused 13 max_text 0) v)
+    go true known = text_refused_named _ _ refl
+    go false known = known
 
 -- a text that is too long is not read
 pub long_refused : (s plan : List ℕ) (numbers : List Float) (r : Result Lengths Refusal) → max_text < length s

@@ -39,7 +39,7 @@ each_answerable (suc n) f h = then_answerable (each_answerable n f h) (h n)
 
 -- ---- the checks
 module _ (plan : List ℕ) where
-  word_answerable : (n p : ℕ) (ok : Bool) → Answerable (word_is plan n p ok)
+  pub word_answerable : (n p : ℕ) (ok : Bool) → Answerable (word_is plan n p ok)
   unfolding word_is
   word_answerable n p ok = then_answerable (require_answerable _ _ _) (require_answerable _ _ _)
 
