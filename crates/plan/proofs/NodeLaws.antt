@@ -4,7 +4,7 @@ use native.Mathlib.Numerals.{add-one}
 use native.Mathlib.Omega.{arith}
 use native.Mathlib.Decide.{ℕ_discrete, dec_lt}
 use mathlib.Core.Path.{◌≡◌, refl, sym, ◌∙◌}
-use mathlib.Core.Bool.{Bool, true, false, not, ◌&&◌, ◌||◌, or-false, or-true, or_assoc}
+use mathlib.Core.Bool.{Bool, true, false, cond, not, ◌&&◌, ◌||◌, or-false, or-true, or_assoc}
 use mathlib.Core.List.{List}
 use lib.Dec.{ltb, leb, eqb}
 use lib.ListN.{get_or, length, set, length-set, replicate, length-replicate, get_or-replicate}
@@ -16,6 +16,7 @@ use Rattle.model.specs.Answers.{Verdict, accepted, refused, values, ◌then◌, 
 use Rattle.model.specs.Plan.{max_nodes, max_clip_nodes, word, kind_at, kind, is_clip, input_a, input_b, node_parameter, clip_node_at}
 use Rattle.model.specs.Check.{word_is, used, check_node}
 use Rattle.model.proofs.Laws.Answers.{then_left, then_right, then_refused}
+use Rattle.model.proofs.Laws.Named.{Named, require_named, then_named, word_named}
 use Rattle.model.proofs.Laws.Tests.{word_true, and_left}
 use Rattle.model.proofs.Laws.ClipNodes.{first_clip_node, clip_counts, blend_counts_not}
 use Rattle.plan.specs.declared.words.Counts.{Counts}
@@ -35,6 +36,25 @@ module _ (plan : List ℕ) (node : NodePlace) (counts : Counts) where
       ≡ check_clip_node plan node counts
   unfolding check_clip_node require ◌then◌
   clip_words few = rw (lt-ltb node.clip_node _ few)
+
+-- ---- its refusals' numbers
+
+module _ (plan : List ℕ) (node : NodePlace) (counts : Counts) (marks : List Bool) where
+  clip_named : Named (check_clip_node plan node counts)
+  unfolding check_clip_node
+  clip_named = then_named (then_named (then_named (require_named _ _ _ refl) (word_named _ _ _ _ refl)) (word_named _ _ _ _ refl)) (word_named _ _ _ _ refl)
+
+  blend_named : Named (check_blend_node plan node counts marks)
+  unfolding check_blend_node
+  blend_named = then_named (then_named (word_named _ _ _ _ refl) (word_named _ _ _ _ refl)) (word_named _ _ _ _ refl)
+
+  pub node_at_named : Named (check_node_at plan node counts marks)
+  unfolding check_node_at
+  node_at_named = then_named (word_named _ _ _ _ refl) (go (eqb (word plan node.at) 0))
+    where
+      go : (is_clip : Bool) → Named (cond is_clip (check_clip_node plan node counts) (check_blend_node plan node counts marks))
+      go true = clip_named
+      go false = blend_named
 
 -- ---- all words of a node
 

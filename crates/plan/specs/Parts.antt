@@ -1,7 +1,8 @@
 -- Verdicts of the check's parts that model does not name. Definitions only.
-use Rattle.std.specs.Prelude.{ℕ, ◌+◌, ◌<◌, ◌≡◌, Bool, true, false, cond, not, ◌&&◌, List, get_or, length, set, ltb, leb, eqb, Result, IfOk}
+use Rattle.std.specs.Prelude.{ℕ, ◌+◌, ◌<◌, ◌≡◌, Bool, true, false, cond, not, ◌&&◌, List, get_or, length, set, ltb, leb, eqb, Result, IfOk, IfErr}
 use Rattle.model.specs.declared.Refusal.{Refusal}
-use Rattle.model.specs.Answers.{Verdict, accepted, values, ◌then◌, each, require}
+use Rattle.model.specs.Reasons.{is_named}
+use Rattle.model.specs.Answers.{Verdict, accepted, number_of, values, ◌then◌, each, require}
 use Rattle.model.specs.Plan.{max_nodes, max_clip_nodes, word, joint_count, clip_count, parameter_count, state_count, state_at, transitions_before, clip_nodes_before, plan_end, numbers_length}
 use Rattle.model.specs.Check.{word_is, used, check_header, check_parent, check_clip, check_node, check_state}
 use Rattle.layout.specs.declared.Layout.{Layout}
@@ -73,10 +74,11 @@ pub record Begins (plan : List ℕ) (s at n : ℕ) : Type 0 where
 pub record Marks (plan : List ℕ) (s i : ℕ) (marks : List Bool) : Type 0 where
   pub mark : (k : ℕ) → k < max_nodes → get_or marks k false ≡ used plan s i k
 
--- the first k nodes of the state that begins so, with their marks where all pass
+-- the first k nodes of the state that begins so, with their marks where all pass. Whatever begins there, a refusal has a reason of its own
 pub record NodesChecked (plan : List ℕ) (at n k : ℕ) (marks : List Bool) (r : Result Unit Refusal) : Type 0 where
   pub answer : (s : ℕ) → Begins plan s at n → values r ≡ each k (check_node plan s)
   pub marked : (s : ℕ) → Begins plan s at n → IfOk r (λ _. Marks plan s k marks)
+  pub named : IfErr r (λ refusal. is_named (number_of refusal.reason) ≡ true)
 
 -- the state that begins so
 pub record StateChecked (plan : List ℕ) (at n : ℕ) (r : Result Unit Refusal) : Type 0 where

@@ -140,3 +140,25 @@ pub fn check_used(used: &[bool], place: usize) -> Answer
     }
     Ok(())
 }
+
+#[cfg(test)]
+mod tests {
+    use super::*;
+
+    // A joint, a clip of one sample and a state: the plan ends behind the state's K, where its node should begin. At word 0
+    // no state begins, and a node that is read from there has itself for an input.
+    #[test]
+    fn check_nodes_has_a_reason(rt: HostRuntime) {
+        let plan = [1, 1, 0, 1, 0, 65535, 1, 0, 1];
+        let counts = Counts {
+            clips: 1,
+            parameters: 0,
+            states: 1,
+        };
+        let mut used = [false; MARKS];
+        let missing = check_nodes(&plan, 8, 1, counts, 0, &mut used);
+        assert!(rt; missing == Err(Reason::PlanEnded.at(9)));
+        let misread = check_nodes(&plan, 0, 1, counts, 0, &mut used);
+        assert!(rt; misread == Err(Reason::Node.at(2)));
+    }
+}

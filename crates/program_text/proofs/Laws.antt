@@ -27,15 +27,15 @@ use Rattle.program_text.specs.ProgramText.{reading_verdict, program_verdict, Pro
 -- ---- reading
 
 -- each refusal has a number that has a reason of its own
-pub program_named : (s : List ℕ) → TextNamed (program_verdict s)
-unfolding program_verdict
-program_named s = go (ltb max_text (length s)) (reading_named (read_figure s))
-  where
-    reading_named : (x : Reading) → TextNamed (reading_verdict x)
-    unfolding reading_verdict
-    reading_named (bad n) = text_refused_named _ _ refl
-    reading_named (got ws bs rest n) = text_accepted_named _ _
+reading_named : (x : Reading) → TextNamed (reading_verdict x)
+unfolding reading_verdict
+reading_named (bad n) = text_refused_named _ _ refl
+reading_named (got ws bs rest n) = text_accepted_named _ _
 
+pub program_named : (text : List ℕ) → TextNamed (program_verdict text)
+unfolding program_verdict
+program_named text = go (ltb max_text (length text)) (reading_named (read_figure text))
+  where
     go : (long : Bool) → {v : TextVerdict} → TextNamed v → TextNamed (cond long (refused 13 max_text 0) v)
     go true known = text_refused_named _ _ refl
     go false known = known

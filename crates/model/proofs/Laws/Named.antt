@@ -116,6 +116,12 @@ unfolding values
 own_reason (Ok x) e known = tt
 own_reason (Err x) e known = (known.named _ _ _ (sym e)).0
 
+-- and back
+pub values_named : {A : Type 0} (r : Result A Refusal) → IfErr r (λ x. is_named (number_of x.reason) ≡ true) → Named (values r)
+unfolding values require
+values_named (Ok x) known = accepted_named
+values_named (Err x) known = require_named false _ _ known
+
 -- ---- reading a text
 
 text_number_same : {n p r m q s : ℕ} → Text.refused n p r ≡ Text.refused m q s → n ≡ m

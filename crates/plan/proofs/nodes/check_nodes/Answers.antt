@@ -3,9 +3,10 @@
 use Prim.Native.Nat.{◌+◌, ◌*◌}
 use native.Mathlib.Omega.{arith}
 use Rattle.std.proofs.lemmas.Result.{IfOk-from_err}
-use Rattle.model.proofs.Laws.Exits.{passed}
+use Rattle.model.proofs.Laws.Exits.{passed, leaves}
+use Rattle.model.proofs.Laws.Named.{own_reason}
 use Rattle.plan.proofs.Laws.{passing_stops, passing_all}
-use Rattle.plan.proofs.NodeLaws.{nodes_none, node_verdict, node_next, has_inputs, clip_node_most, marks_all}
+use Rattle.plan.proofs.NodeLaws.{nodes_none, node_verdict, node_next, has_inputs, clip_node_most, marks_all, node_at_named}
 use mathlib.Core.Path.{refl}
 use Rattle.plan.proofs.nodes.check_nodes.Goals as goal
 
@@ -18,6 +19,7 @@ returns-in_err-check_node c =
     record {
       answer = λ s b. let so_far = c.loop-i.invariant.1 s b in passing_stops so_far.passing c.loop-i-test.true _ _ _ c.from_residual.ensures.1 (node_verdict _ _ _ _ b so_far c.loop-i-test.true pre.1 _ pre.3 _ _ c.in_err-check_node.ensures);
       marked = λ s b. IfOk-from_err _ _ c.from_residual.ensures.0;
+      named = own_reason _ (leaves _ _ _ _ c.from_residual.ensures.1 c.in_err-check_node.ensures) (node_at_named _ _ _ _);
     }
 
 pub mark-requires : goal.mark-requires
@@ -34,4 +36,4 @@ pub returns : goal.returns
 returns c =
     let l = c.loop-i.invariant in
     let out = c.loop-i-test.false in
-    record { answer = λ s b. passing_all (l.1 s b).passing _ out; marked = λ s b. marks_all _ _ _ _ (l.1 s b).marked _ (l.1 s b).passing.within out }
+    record { answer = λ s b. passing_all (l.1 s b).passing _ out; marked = λ s b. marks_all _ _ _ _ (l.1 s b).marked _ (l.1 s b).passing.within out; named = tt }
