@@ -25,7 +25,7 @@ number_same e = grind arith
 rest_same : {n p r m q s : ℕ} → refused n p r ≡ refused m q s → r ≡ s
 rest_same e = grind arith
 
-accepted_named : Named accepted
+pub accepted_named : Named accepted
 accepted_named = record { named = λ number place rest e. absurd cc }
 
 pub require_named : (ok : Bool) (n p : ℕ) → is_named n ≡ true → Named (require ok n p)
@@ -78,7 +78,7 @@ module _ (plan : List ℕ) where
       (then_named (then_named (then_named (word_named _ _ _ refl) (each_named _ _ (node_named s))) (each_named _ _ (λ k. require_named _ _ _ refl))) (word_named _ _ _ refl))
       (each_named _ _ (transition_named s))
 
-  -- refusals 1 to 7 and 14: a start, and what a figure uses
+  -- refusals 1 to 7 and 14
   pub check_named : (n : ℕ) → Named (check plan n)
   unfolding check
   check_named n =
@@ -86,7 +86,11 @@ module _ (plan : List ℕ) where
       (then_named (then_named (then_named (then_named header_named (each_named _ _ parent_named)) (each_named _ _ clip_named)) (each_named _ _ state_named)) (require_named _ _ _ refl))
       (require_named _ _ _ refl)
 
--- ---- the other calls
+-- ---- calls
+
+pub start_named : (plan : List ℕ) (numbers : List Float) → Named (start_verdict plan numbers)
+unfolding start_verdict
+start_named plan numbers = check_named plan (length numbers)
 
 pub set_named : (n : ℕ) → Named (set_verdict n)
 set_named n = require_named _ _ _ refl
