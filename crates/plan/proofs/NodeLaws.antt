@@ -40,21 +40,21 @@ module _ (plan : List ℕ) (node : NodePlace) (counts : Counts) where
 -- ---- its refusals' numbers
 
 module _ (plan : List ℕ) (node : NodePlace) (counts : Counts) (marks : List Bool) where
-  clip_named : Named (check_clip_node plan node counts)
+  clip_node_named : Named (check_clip_node plan node counts)
   unfolding check_clip_node
-  clip_named = then_named (then_named (then_named (require_named _ _ _ refl) (word_named _ _ _ _ refl)) (word_named _ _ _ _ refl)) (word_named _ _ _ _ refl)
+  clip_node_named = then_named (then_named (then_named (require_named _ _ _ refl) (word_named _ _ _ _ refl)) (word_named _ _ _ _ refl)) (word_named _ _ _ _ refl)
 
-  blend_named : Named (check_blend_node plan node counts marks)
+  blend_node_named : Named (check_blend_node plan node counts marks)
   unfolding check_blend_node
-  blend_named = then_named (then_named (word_named _ _ _ _ refl) (word_named _ _ _ _ refl)) (word_named _ _ _ _ refl)
+  blend_node_named = then_named (then_named (word_named _ _ _ _ refl) (word_named _ _ _ _ refl)) (word_named _ _ _ _ refl)
 
   pub node_at_named : Named (check_node_at plan node counts marks)
   unfolding check_node_at
   node_at_named = then_named (word_named _ _ _ _ refl) (go (eqb (word plan node.at) 0))
     where
       go : (is_clip : Bool) → Named (cond is_clip (check_clip_node plan node counts) (check_blend_node plan node counts marks))
-      go true = clip_named
-      go false = blend_named
+      go true = clip_node_named
+      go false = blend_node_named
 
 -- ---- all words of a node
 

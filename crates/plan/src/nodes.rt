@@ -145,18 +145,20 @@ pub fn check_used(used: &[bool], place: usize) -> Answer
 mod tests {
     use super::*;
 
-    // A joint, a clip of one sample and a state: the plan ends behind the state's K, where its node should begin. At word 0
-    // no state begins, and a node that is read from there has itself for an input.
+    // A joint, a clip of one sample and a state of one node, whose K is the word 8: with its node, and where the plan ends
+    // before it. At word 0 no state begins, and what is read from there as a node has itself for an input.
     #[test]
     fn check_nodes_has_a_reason(rt: HostRuntime) {
-        let plan = [1, 1, 0, 1, 0, 65535, 1, 0, 1];
+        let plan = [1, 1, 0, 1, 0, 65535, 1, 0, 1, 0, 0, 0, 0];
+        let ended = [1, 1, 0, 1, 0, 65535, 1, 0, 1];
         let counts = Counts {
             clips: 1,
             parameters: 0,
             states: 1,
         };
         let mut used = [false; MARKS];
-        let missing = check_nodes(&plan, 8, 1, counts, 0, &mut used);
+        assert!(rt; check_nodes(&plan, 8, 1, counts, 0, &mut used) == Ok(()));
+        let missing = check_nodes(&ended, 8, 1, counts, 0, &mut used);
         assert!(rt; missing == Err(Reason::PlanEnded.at(9)));
         let misread = check_nodes(&plan, 0, 1, counts, 0, &mut used);
         assert!(rt; misread == Err(Reason::Node.at(2)));
