@@ -144,23 +144,29 @@ pub fn check_used(used: &[bool], place: usize) -> Answer
 #[cfg(test)]
 mod tests {
     use super::*;
+    use model::limits::ROOT;
 
-    // A joint, a clip of one sample and a state of one node, whose K is the word 8: with its node, and where the plan ends
-    // before it. At word 0 no state begins, and what is read from there as a node has itself for an input.
+    // A joint, a clip of one sample and a state of one node, which begins at its K, the word 8.
+    const STATE: usize = 8;
+
+    const PLAN: [u16; 13] = [1, 1, 0, 1, 0, ROOT as u16, 1, 0, 1, 0, 0, 0, 0];
+
+    const COUNTS: Counts = Counts {
+        clips: 1,
+        parameters: 0,
+        states: 1,
+    };
+
+    // With its node, and where the plan ends before it. At word 0 no state begins, and what is read from there as a node has
+    // itself for an input.
     #[test]
     fn check_nodes_has_a_reason(rt: HostRuntime) {
-        let plan = [1, 1, 0, 1, 0, 65535, 1, 0, 1, 0, 0, 0, 0];
-        let ended = [1, 1, 0, 1, 0, 65535, 1, 0, 1];
-        let counts = Counts {
-            clips: 1,
-            parameters: 0,
-            states: 1,
-        };
         let mut used = [false; MARKS];
-        assert!(rt; check_nodes(&plan, 8, 1, counts, 0, &mut used) == Ok(()));
-        let missing = check_nodes(&ended, 8, 1, counts, 0, &mut used);
-        assert!(rt; missing == Err(Reason::PlanEnded.at(9)));
-        let misread = check_nodes(&plan, 0, 1, counts, 0, &mut used);
+        let whole = check_nodes(&PLAN, STATE, 1, COUNTS, 0, &mut used);
+        assert!(rt; whole == Ok(()));
+        let ended = check_nodes(&PLAN[..STATE + 1], STATE, 1, COUNTS, 0, &mut used);
+        assert!(rt; ended == Err(Reason::PlanEnded.at(STATE + 1)));
+        let misread = check_nodes(&PLAN, 0, 1, COUNTS, 0, &mut used);
         assert!(rt; misread == Err(Reason::Node.at(2)));
     }
 }

@@ -1,5 +1,5 @@
 -- Each verdict of the definitions is one that an answer can give: the rest of a refused answer is 0.
-use Rattle.std.specs.Prelude.{ℕ, zero, suc, ◌≡◌, refl, Bool, true, false, List, length, Float, Result, Ok, Err}
+use Rattle.std.specs.Prelude.{ℕ, zero, suc, ◌≡◌, refl, Bool, true, false, List, Float, Result, Ok, Err}
 use Rattle.std.proofs.Common.{ap}
 use Rattle.model.specs.declared.Reason.{Reason}
 use Rattle.model.specs.declared.Refusal.{Refusal}
@@ -9,6 +9,7 @@ use Rattle.model.specs.Check.{word_is, check, check_header, check_parent, check_
 use Rattle.model.specs.Controller.{frame_verdict}
 use Rattle.model.specs.Loops.{loops_verdict}
 use Rattle.model.proofs.Laws.Reasons.{reason_of, number_of_reason}
+use Rattle.model.proofs.Laws.Named.{Named, header_named, parent_named, clip_named, node_named, transition_named, state_named, check_named, frame_named, loops_named}
 
 pub record Answerable (v : Verdict) : Type 0 where
   pub answer : Result Unit Refusal
@@ -27,12 +28,18 @@ require_answerable false n p = record { answer = Err (record { reason = reason_o
 pub reason_answerable : (r : Reason) (ok : Bool) (p : ℕ) → Answerable (require ok (number_of r) p)
 reason_answerable r ok p = require_answerable ok (number_of r) p
 
-then_answerable : {a b : Verdict} → Answerable a → Answerable b → Answerable (a then b)
+-- and so each verdict whose number has a reason of its own, and whose rest is 0
+pub answerable : {v : Verdict} → Named v → Answerable v
+unfolding require
+answerable {v = accepted} known = accepted_answerable
+answerable {v = refused n p r} known = rw (known.named _ _ _ refl).1 (require_answerable false n p)
+
+pub then_answerable : {a b : Verdict} → Answerable a → Answerable b → Answerable (a then b)
 unfolding ◌then◌
 then_answerable {a = accepted} x y = y
 then_answerable {a = refused n p r} x y = x
 
-each_answerable : (n : ℕ) (f : ℕ → Verdict) → ((i : ℕ) → Answerable (f i)) → Answerable (each n f)
+pub each_answerable : (n : ℕ) (f : ℕ → Verdict) → ((i : ℕ) → Answerable (f i)) → Answerable (each n f)
 unfolding each
 each_answerable zero f h = accepted_answerable
 each_answerable (suc n) f h = then_answerable (each_answerable n f h) (h n)
@@ -43,55 +50,32 @@ module _ (plan : List ℕ) where
   unfolding word_is
   word_answerable n p ok = then_answerable (require_answerable _ _ _) (require_answerable _ _ _)
 
-  reason_word_answerable : (r : Reason) (p : ℕ) (ok : Bool) → Answerable (word_is plan (number_of r) p ok)
+  pub reason_word_answerable : (r : Reason) (p : ℕ) (ok : Bool) → Answerable (word_is plan (number_of r) p ok)
   reason_word_answerable r p ok = word_answerable (number_of r) p ok
 
-  node_answerable : (s i : ℕ) → Answerable (check_node plan s i)
-  unfolding check_node
-  node_answerable s i =
-      then_answerable (then_answerable (then_answerable (then_answerable (word_answerable _ _ _) (require_answerable _ _ _)) (word_answerable _ _ _)) (word_answerable _ _ _)) (word_answerable _ _ _)
+  pub node_answerable : (s i : ℕ) → Answerable (check_node plan s i)
+  node_answerable s i = answerable (node_named plan s i)
 
-  transition_answerable : (s t : ℕ) → Answerable (check_transition plan s t)
-  unfolding check_transition
-  transition_answerable s t = then_answerable (then_answerable (word_answerable _ _ _) (word_answerable _ _ _)) (word_answerable _ _ _)
+  pub transition_answerable : (s t : ℕ) → Answerable (check_transition plan s t)
+  transition_answerable s t = answerable (transition_named plan s t)
 
-  state_answerable : (s : ℕ) → Answerable (check_state plan s)
-  unfolding check_state
-  state_answerable s =
-      then_answerable
-      (then_answerable
-      (then_answerable (then_answerable (word_answerable _ _ _) (each_answerable _ _ (node_answerable s))) (each_answerable _ _ (λ k. require_answerable _ _ _)))
-      (word_answerable _ _ _))
-      (each_answerable _ _ (transition_answerable s))
+  pub state_answerable : (s : ℕ) → Answerable (check_state plan s)
+  state_answerable s = answerable (state_named plan s)
 
-  header_answerable : Answerable (check_header plan)
-  unfolding check_header
-  header_answerable =
-      then_answerable (then_answerable (then_answerable (then_answerable (word_answerable _ _ _) (word_answerable _ _ _)) (word_answerable _ _ _)) (word_answerable _ _ _)) (word_answerable _ _ _)
+  pub header_answerable : Answerable (check_header plan)
+  header_answerable = answerable (header_named plan)
 
-  parent_answerable : (j : ℕ) → Answerable (check_parent plan j)
-  unfolding check_parent
-  parent_answerable j = word_answerable _ _ _
+  pub parent_answerable : (j : ℕ) → Answerable (check_parent plan j)
+  parent_answerable j = answerable (parent_named plan j)
 
-  clip_answerable : (c : ℕ) → Answerable (check_clip plan c)
-  unfolding check_clip
-  clip_answerable c = then_answerable (word_answerable _ _ _) (word_answerable _ _ _)
+  pub clip_answerable : (c : ℕ) → Answerable (check_clip plan c)
+  clip_answerable c = answerable (clip_named plan c)
 
   pub check_answerable : (n : ℕ) → Answerable (check plan n)
-  unfolding check
-  check_answerable n =
-      then_answerable
-      (then_answerable
-      (then_answerable
-      (then_answerable (then_answerable header_answerable (each_answerable _ _ parent_answerable)) (each_answerable _ _ clip_answerable))
-      (each_answerable _ _ state_answerable))
-      (require_answerable _ _ _))
-      (require_answerable _ _ _)
+  check_answerable n = answerable (check_named plan n)
 
   pub frame_answerable : (numbers : List Float) (p : Player) (n : ℕ) → Answerable (frame_verdict plan numbers p n)
-  unfolding frame_verdict
-  frame_answerable numbers p n = then_answerable (then_answerable (check_answerable (length numbers)) (require_answerable _ _ _)) (require_answerable _ _ _)
+  frame_answerable numbers p n = answerable (frame_named plan numbers p n)
 
   pub loops_answerable : (numbers : List Float) (p : Player) (s n : ℕ) → Answerable (loops_verdict plan numbers p s n)
-  unfolding loops_verdict
-  loops_answerable numbers p s n = then_answerable (then_answerable (then_answerable (check_answerable (length numbers)) (require_answerable _ _ _)) (require_answerable _ _ _)) (require_answerable _ _ _)
+  loops_answerable numbers p s n = answerable (loops_named plan numbers p s n)
