@@ -1,8 +1,9 @@
 -- Document 01, what an answer is, and how the first refusal is found. Definitions only.
-use Rattle.std.specs.Prelude.{ℕ, zero, suc, Bool, cond, Result, Ok, Err}
+use Rattle.std.specs.Prelude.{ℕ, zero, suc, ◌≡◌, Bool, true, cond, Result, Ok, Err, IfErr}
 use Rattle.model.specs.declared.Reason.{Reason}
 use Rattle.model.specs.declared.Reason.TheVariants as reason
 use Rattle.model.specs.declared.Refusal.{Refusal}
+use Rattle.model.specs.Reasons.{is_named}
 
 -- 'answer'
 pub data Verdict : Type 0 where
@@ -34,6 +35,10 @@ number_of (reason.Other r) = r.number
 unfoldable pub values : {A : Type 0} → Result A Refusal → Verdict
 values (Ok x) = accepted
 values (Err r) = refused (number_of r.reason) r.place 0
+
+-- no refusal, or one by a reason of the program's own
+abbrev pub OwnReason : {A : Type 0} → Result A Refusal → Type 0
+OwnReason r = IfErr r (λ refusal. is_named (number_of refusal.reason) ≡ true)
 
 -- ---- the first refusal
 

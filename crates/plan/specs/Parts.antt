@@ -1,8 +1,7 @@
 -- Verdicts of the check's parts that model does not name. Definitions only.
-use Rattle.std.specs.Prelude.{ℕ, ◌+◌, ◌<◌, ◌≡◌, Bool, true, false, cond, not, ◌&&◌, List, get_or, length, set, ltb, leb, eqb, Result, IfOk, IfErr}
+use Rattle.std.specs.Prelude.{ℕ, ◌+◌, ◌<◌, ◌≡◌, Bool, true, false, cond, not, ◌&&◌, List, get_or, length, set, ltb, leb, eqb, Result, IfOk}
 use Rattle.model.specs.declared.Refusal.{Refusal}
-use Rattle.model.specs.Reasons.{is_named}
-use Rattle.model.specs.Answers.{Verdict, accepted, number_of, values, ◌then◌, each, require}
+use Rattle.model.specs.Answers.{Verdict, accepted, values, OwnReason, ◌then◌, each, require}
 use Rattle.model.specs.Plan.{max_nodes, max_clip_nodes, word, joint_count, clip_count, parameter_count, state_count, state_at, transitions_before, clip_nodes_before, plan_end, numbers_length}
 use Rattle.model.specs.Check.{word_is, used, check_header, check_parent, check_clip, check_node, check_state}
 use Rattle.layout.specs.declared.Layout.{Layout}
@@ -78,7 +77,7 @@ pub record Marks (plan : List ℕ) (s i : ℕ) (marks : List Bool) : Type 0 wher
 pub record NodesChecked (plan : List ℕ) (at n k : ℕ) (marks : List Bool) (r : Result Unit Refusal) : Type 0 where
   pub answer : (s : ℕ) → Begins plan s at n → values r ≡ each k (check_node plan s)
   pub marked : (s : ℕ) → Begins plan s at n → IfOk r (λ _. Marks plan s k marks)
-  pub named : IfErr r (λ refusal. is_named (number_of refusal.reason) ≡ true)
+  pub named : OwnReason r
 
 -- the state that begins so
 pub record StateChecked (plan : List ℕ) (at n : ℕ) (r : Result Unit Refusal) : Type 0 where

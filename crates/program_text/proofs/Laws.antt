@@ -10,7 +10,7 @@ use lib.Dec.{ltb}
 use lib.Ieee.{Float, binary32, of_bits}
 use borrow.Author.Tests.{lt-ltb, le-ltb, le-leb}
 use Rattle.model.specs.declared.Refusal.{Refusal}
-use Rattle.model.specs.Answers.{number_of}
+use Rattle.model.specs.Answers.{number_of, require}
 use Rattle.model.specs.declared.Lengths.{Lengths}
 use Rattle.std.specs.Prelude.{Result, Ok, Err}
 use Rattle.model.specs.Plan.{max_plan}
@@ -18,7 +18,7 @@ use Rattle.model.specs.Text.{Reading, bad, got, read_figure, floats_of, overwrit
 use Rattle.model.specs.Text.{TextVerdict, accepted, refused, text_values, text_verdict, when_accepted}
 use Rattle.model.specs.Program.{refused_line, printed_from, max_text, max_numbers, printed_by}
 use Rattle.model.specs.Promises.{TextRead}
-use Rattle.model.proofs.Laws.Named.{TextNamed, text_accepted_named, text_refused_named}
+use Rattle.model.proofs.Laws.Named.{Named, accepted_named, require_named, verdict_of}
 use Rattle.model.proofs.Laws.Reading.{figure_fits}
 use Rattle.printing.proofs.Laws.{front_length, front_is}
 use Rattle.round_trip.proofs.Theorems.{words_most}
@@ -26,18 +26,18 @@ use Rattle.program_text.specs.ProgramText.{reading_verdict, program_verdict, Pro
 
 -- ---- reading
 
--- each refusal has a number that has a reason of its own
-reading_named : (x : Reading) → TextNamed (reading_verdict x)
-unfolding reading_verdict
-reading_named (bad n) = text_refused_named _ _ refl
-reading_named (got ws bs rest n) = text_accepted_named _ _
+-- each refusal has a reason of its own
+reading_named : (x : Reading) → Named (verdict_of (reading_verdict x))
+unfolding reading_verdict verdict_of require
+reading_named (bad n) = require_named false _ _ refl
+reading_named (got ws bs rest n) = accepted_named
 
-pub program_named : (text : List ℕ) → TextNamed (program_verdict text)
-unfolding program_verdict
+pub program_named : (text : List ℕ) → Named (verdict_of (program_verdict text))
+unfolding program_verdict verdict_of require
 program_named text = go (ltb max_text (length text)) (reading_named (read_figure text))
   where
-    go : (long : Bool) → {v : TextVerdict} → TextNamed v → TextNamed (cond long (refused 13 max_text 0) v)
-    go true known = text_refused_named _ _ refl
+    go : (long : Bool) → {v : TextVerdict} → Named (verdict_of v) → Named (verdict_of (cond long (refused 13 max_text 0) v))
+    go true known = require_named false _ _ refl
     go false known = known
 
 -- a text that is too long is not read

@@ -26,6 +26,19 @@ unfolding require
 require_true true n p e = refl
 require_true false n p e = cc
 
+-- ---- what holds of each check holds of a row of them
+
+module _ (P : Verdict → Type 0) where
+  pub then_keeps : (a b : Verdict) → P a → P b → P (a then b)
+  unfolding ◌then◌
+  then_keeps accepted b x y = y
+  then_keeps (refused n p r) b x y = x
+
+  pub each_keeps : P accepted → (n : ℕ) (f : ℕ → Verdict) → ((i : ℕ) → P (f i)) → P (each n f)
+  unfolding each
+  each_keeps none zero f h = none
+  each_keeps none (suc n) f h = then_keeps _ _ (each_keeps none n f h) (h n)
+
 -- ---- for a loop over `each`: one more check passed, or the loop ends with its refusal
 
 pub then_accepted : (a b : Verdict) → a ≡ accepted → a then b ≡ b

@@ -1,18 +1,19 @@
 -- Laws of refusals' numbers: each verdict of the definitions accepts, or refuses by a number that has a reason of its own and with a rest of 0. So no
 -- answer to a call is told by `Reason::Other`.
-use Rattle.std.specs.Prelude.{ℕ, zero, suc, ◌≡◌, refl, Bool, true, false, cond, ◌&&◌, leb, List, length, Float, Result, Ok, Err, IfErr}
-use Rattle.std.proofs.Common.{arith, sym}
+use Rattle.std.specs.Prelude.{ℕ, ◌≡◌, refl, Bool, true, false, cond, ◌&&◌, leb, List, length, Float, Result, Ok, Err}
+use Rattle.std.proofs.Common.{arith, ap, sym}
 use Rattle.model.specs.declared.Player.{Player}
 use Rattle.model.specs.declared.Refusal.{Refusal}
 use Rattle.model.specs.declared.Lengths.{Lengths}
 use Rattle.model.specs.Reasons.{is_named}
-use Rattle.model.specs.Answers.{Verdict, accepted, refused, number_of, values, ◌then◌, each, require}
+use Rattle.model.specs.Answers.{Verdict, accepted, refused, values, OwnReason, ◌then◌, each, require}
 use Rattle.model.specs.Check.{word_is, check, check_header, check_parent, check_clip, check_node, check_transition, check_state}
 use Rattle.model.specs.Controller.{set_verdict, frame_verdict}
 use Rattle.model.specs.Loops.{loops_verdict}
 use Rattle.model.specs.Run.{Call, Update, Speed, Set, Frame, Loops, start_verdict, call_verdict}
 use Rattle.model.specs.Text as Text
 use Rattle.model.specs.Text.{Reading, bad, got, TextVerdict, text_values, text_verdict}
+use Rattle.model.proofs.Laws.Answers.{then_keeps, each_keeps}
 
 pub record Named (v : Verdict) : Type 0 where
   pub named : (number place rest : ℕ) → v ≡ refused number place rest → (is_named number ≡ true) × (rest ≡ 0)
@@ -34,14 +35,10 @@ require_named true n p h = accepted_named
 require_named false n p h = record { named = λ number place rest e. (rw (number_same e) at h, sym (rest_same e)) }
 
 pub then_named : {a b : Verdict} → Named a → Named b → Named (a then b)
-unfolding ◌then◌
-then_named {a = accepted} x y = y
-then_named {a = refused n p r} x y = x
+then_named x y = then_keeps Named _ _ x y
 
 pub each_named : (n : ℕ) (f : ℕ → Verdict) → ((i : ℕ) → Named (f i)) → Named (each n f)
-unfolding each
-each_named zero f h = accepted_named
-each_named (suc n) f h = then_named (each_named n f h) (h n)
+each_named n f h = each_keeps Named accepted_named n f h
 
 -- ---- the checks of a plan
 module _ (plan : List ℕ) where
@@ -115,44 +112,34 @@ module _ (plan : List ℕ) (numbers : List Float) (p : Player) where
 -- ---- what the program answers
 
 -- of a call whose promise is an equation with such a verdict
-pub own_reason : {A : Type 0} (r : Result A Refusal) {v : Verdict} → values r ≡ v → Named v → IfErr r (λ x. is_named (number_of x.reason) ≡ true)
+pub own_reason : {A : Type 0} (r : Result A Refusal) {v : Verdict} → values r ≡ v → Named v → OwnReason r
 unfolding values
 own_reason (Ok x) e known = tt
 own_reason (Err x) e known = (known.named _ _ _ (sym e)).0
 
 -- and back
-pub values_named : {A : Type 0} (r : Result A Refusal) → IfErr r (λ x. is_named (number_of x.reason) ≡ true) → Named (values r)
+pub values_named : {A : Type 0} (r : Result A Refusal) → OwnReason r → Named (values r)
 unfolding values require
 values_named (Ok x) known = accepted_named
 values_named (Err x) known = require_named false _ _ known
 
 -- ---- reading a text
 
-text_number_same : {n p r m q s : ℕ} → Text.refused n p r ≡ Text.refused m q s → n ≡ m
-text_number_same e = grind arith
+-- without what an acceptance tells
+pub verdict_of : TextVerdict → Verdict
+verdict_of (Text.accepted words numbers) = accepted
+verdict_of (Text.refused number place rest) = refused number place rest
 
-text_rest_same : {n p r m q s : ℕ} → Text.refused n p r ≡ Text.refused m q s → r ≡ s
-text_rest_same e = grind arith
-
-pub record TextNamed (v : TextVerdict) : Type 0 where
-  pub named : (number place rest : ℕ) → v ≡ Text.refused number place rest → (is_named number ≡ true) × (rest ≡ 0)
-
-pub text_accepted_named : (words numbers : ℕ) → TextNamed (Text.accepted words numbers)
-text_accepted_named words numbers = record { named = λ number place rest e. absurd cc }
-
-pub text_refused_named : (n p : ℕ) → is_named n ≡ true → TextNamed (Text.refused n p 0)
-text_refused_named n p h = record { named = λ number place rest e. (rw (text_number_same e) at h, sym (text_rest_same e)) }
-
-pub text_named : (x : Reading) (plan_room numbers_room : ℕ) → TextNamed (text_verdict x plan_room numbers_room)
-unfolding text_verdict
-text_named (bad n) plan_room numbers_room = text_refused_named _ _ refl
+pub text_named : (x : Reading) (plan_room numbers_room : ℕ) → Named (verdict_of (text_verdict x plan_room numbers_room))
+unfolding text_verdict verdict_of require
+text_named (bad n) plan_room numbers_room = require_named false _ _ refl
 text_named (got ws bs rest n) plan_room numbers_room = go (leb (length ws) plan_room && leb (length bs) numbers_room)
   where
-    go : (fits : Bool) → TextNamed (cond fits (Text.accepted (length ws) (length bs)) (Text.refused 12 0 0))
-    go true = text_accepted_named _ _
-    go false = text_refused_named _ _ refl
+    go : (fits : Bool) → Named (verdict_of (cond fits (Text.accepted (length ws) (length bs)) (Text.refused 12 0 0)))
+    go true = accepted_named
+    go false = require_named false _ _ refl
 
-pub own_text_reason : (r : Result Lengths Refusal) {v : TextVerdict} → text_values r ≡ v → TextNamed v → IfErr r (λ x. is_named (number_of x.reason) ≡ true)
-unfolding text_values
+pub own_text_reason : (r : Result Lengths Refusal) {v : TextVerdict} → text_values r ≡ v → Named (verdict_of v) → OwnReason r
+unfolding values text_values verdict_of
 own_text_reason (Ok l) e known = tt
-own_text_reason (Err x) e known = (known.named _ _ _ (sym e)).0
+own_text_reason (Err x) e known = (known.named _ _ _ (ap verdict_of (sym e))).0

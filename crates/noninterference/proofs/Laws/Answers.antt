@@ -1,5 +1,5 @@
 -- Each verdict of the definitions is one that an answer can give: the rest of a refused answer is 0.
-use Rattle.std.specs.Prelude.{ℕ, zero, suc, ◌≡◌, refl, Bool, true, false, List, Float, Result, Ok, Err}
+use Rattle.std.specs.Prelude.{ℕ, ◌≡◌, refl, Bool, true, false, List, Float, Result, Ok, Err}
 use Rattle.std.proofs.Common.{ap}
 use Rattle.model.specs.declared.Reason.{Reason}
 use Rattle.model.specs.declared.Refusal.{Refusal}
@@ -8,6 +8,7 @@ use Rattle.model.specs.Answers.{Verdict, accepted, refused, number_of, values, �
 use Rattle.model.specs.Check.{word_is, check, check_header, check_parent, check_clip, check_node, check_transition, check_state}
 use Rattle.model.specs.Controller.{frame_verdict}
 use Rattle.model.specs.Loops.{loops_verdict}
+use Rattle.model.proofs.Laws.Answers.{then_keeps, each_keeps}
 use Rattle.model.proofs.Laws.Reasons.{reason_of, number_of_reason}
 use Rattle.model.proofs.Laws.Named.{Named, header_named, parent_named, clip_named, node_named, transition_named, state_named, check_named, frame_named, loops_named}
 
@@ -35,14 +36,10 @@ answerable {v = accepted} known = accepted_answerable
 answerable {v = refused n p r} known = rw (known.named _ _ _ refl).1 (require_answerable false n p)
 
 pub then_answerable : {a b : Verdict} → Answerable a → Answerable b → Answerable (a then b)
-unfolding ◌then◌
-then_answerable {a = accepted} x y = y
-then_answerable {a = refused n p r} x y = x
+then_answerable x y = then_keeps Answerable _ _ x y
 
 pub each_answerable : (n : ℕ) (f : ℕ → Verdict) → ((i : ℕ) → Answerable (f i)) → Answerable (each n f)
-unfolding each
-each_answerable zero f h = accepted_answerable
-each_answerable (suc n) f h = then_answerable (each_answerable n f h) (h n)
+each_answerable n f h = each_keeps Answerable accepted_answerable n f h
 
 -- ---- the checks
 module _ (plan : List ℕ) where
