@@ -10,15 +10,15 @@ use lib.Dec.{ltb}
 use lib.Ieee.{Float, binary32, of_bits}
 use borrow.Author.Tests.{lt-ltb, le-ltb, le-leb}
 use Rattle.model.specs.declared.Refusal.{Refusal}
-use Rattle.model.specs.Answers.{number_of, require}
+use Rattle.model.specs.Reasons.{is_named}
+use Rattle.model.specs.Answers.{number_of, OwnReason}
 use Rattle.model.specs.declared.Lengths.{Lengths}
 use Rattle.std.specs.Prelude.{Result, Ok, Err}
 use Rattle.model.specs.Plan.{max_plan}
 use Rattle.model.specs.Text.{Reading, bad, got, read_figure, floats_of, overwritten, read_words, read_floats}
-use Rattle.model.specs.Text.{TextVerdict, accepted, refused, text_values, text_verdict, when_accepted}
+use Rattle.model.specs.Text.{accepted, refused, text_values, text_verdict, when_accepted}
 use Rattle.model.specs.Program.{refused_line, printed_from, max_text, max_numbers, printed_by}
 use Rattle.model.specs.Promises.{TextRead}
-use Rattle.model.proofs.Laws.Named.{Named, accepted_named, require_named, verdict_of}
 use Rattle.model.proofs.Laws.Reading.{figure_fits}
 use Rattle.printing.proofs.Laws.{front_length, front_is}
 use Rattle.round_trip.proofs.Theorems.{words_most}
@@ -27,18 +27,18 @@ use Rattle.program_text.specs.ProgramText.{reading_verdict, program_verdict, Pro
 -- ---- reading
 
 -- each refusal has a reason of its own
-reading_named : (x : Reading) → Named (verdict_of (reading_verdict x))
-unfolding reading_verdict verdict_of require
-reading_named (bad n) = require_named false _ _ refl
-reading_named (got ws bs rest n) = accepted_named
+number_same : {n p r m q s : ℕ} → refused n p r ≡ refused m q s → n ≡ m
+number_same e = grind arith
 
-pub program_named : (text : List ℕ) → Named (verdict_of (program_verdict text))
-unfolding program_verdict verdict_of require
-program_named text = go (ltb max_text (length text)) (reading_named (read_figure text))
+pub own_program_reason : (r : Result Lengths Refusal) (text : List ℕ) → text_values r ≡ program_verdict text → OwnReason r
+unfolding text_values program_verdict reading_verdict
+own_program_reason (Ok l) text e = tt
+own_program_reason (Err x) text e = go (ltb max_text (length text)) (read_figure text) e
   where
-    go : (long : Bool) → {v : TextVerdict} → Named (verdict_of v) → Named (verdict_of (cond long (refused 13 max_text 0) v))
-    go true known = require_named false _ _ refl
-    go false known = known
+    go : (long : Bool) (reading : Reading) → refused (number_of x.reason) x.place 0 ≡ cond long (refused 13 max_text 0) (reading_verdict reading) → is_named (number_of x.reason) ≡ true
+    go true reading e = rw (number_same e)
+    go false (bad n) e = rw (number_same e)
+    go false (got ws bs rest n) e = cc
 
 -- a text that is too long is not read
 pub long_refused : (s plan : List ℕ) (numbers : List Float) (r : Result Lengths Refusal) → max_text < length s
